@@ -10,6 +10,8 @@ use Rattle.ln_msgs.specs.declared.refusals.refusal.Refusal.TheVariants as refusa
 use Rattle.ln_keys.specs.Signer.{Signer}
 use Rattle.ln_log.specs.Log.{Log}
 use Rattle.ln_log.specs.RecordForm.{record_form_of, IsRestorable}
+use Rattle.ln_log.specs.declared.log.Side.{Side}
+use Rattle.ln_channel.specs.declared.command.Command as command
 use Rattle.ln_channel.specs.declared.output.Output.{Output}
 use Rattle.ln_channel.specs.declared.machine.ConnectionState.{ConnectionState}
 use Rattle.ln_channel.specs.declared.machine.ConnectionState.TheVariants.{Down}
@@ -31,10 +33,12 @@ use Rattle.ln_link.specs.Loading.{HasRecord}
 use Rattle.ln_link.specs.Saving.{StoreView, HasSaved, IsSaved, IsUnsaved, HandsOut, HaltsUnsaved, SavesFailure}
 use Rattle.ln_link.specs.Saving.{SavesIf, fails_now, is_known, handled_beside, CannotTell, AnswersOver}
 use Rattle.ln_link.specs.Saving.{HaltsBehind, HaltsRefused, FailsBy}
-use Rattle.ln_link.specs.Saving.{stored_end, settled, AnswersMessage, AnswersCommand}
+use Rattle.ln_link.specs.Saving.{stored_end, reached, settled, AnswersMessage, AnswersCommand}
+use Rattle.ln_link.specs.Saving.{SavesChange, has_same_record, is_update, sends_update, taken_alone, sent_alone}
 use Rattle.ln_link.specs.Calls.{Call, Handle, Command, Connect, DropConnection, Halt, Leads, Lead}
 use Rattle.ln_link.specs.Calls.{Has, HasLink, HasChannel}
 use Rattle.ln_link.proofs.Recorded.{recorded, lost_twice}
+use Rattle.ln_link.proofs.Uncovered.{commanded_has, handled_has}
 
 -- ---- what was saved is there
 
@@ -122,17 +126,43 @@ Stays l s = (l.halted ≡ true) ⊎ HasLink l s
 moved : {K : Type 0} (n m : State K) (s : StoreView) → n ≡ m → Stays m s → Stays n s
 moved n m s e = subst (λ (x : State _). Stays x s) (sym e)
 
-handed : {K : Type 0} (said : Result Done Refusal) (l n : State K) (os : List Output) (s t : StoreView)
-    → HandsOut (λ x. x) said l os n s t → HasLink n t
-handed (Ok d) l n os s t h =
-    subst (λ (x : State _). HasLink x t) (sym h.1) (has_saved l.failure (saved_end (settled d l).stage) s t h.2)
-handed (Err r) l n os s t h = absurd h
+-- where the record is what it was, a store that has it has that of the link as the call leaves it
+abbrev pub StaysRecorded : {K : Type 0} → (List Output → Option Side) → Result Done Refusal → State K → StoreView
+    → Type 0
+StaysRecorded brings said l s = (d : Done) → said ≡ Ok d → has_same_record (brings d.outputs) d.stage ≡ true
+    → HasLink l s → HasLink (settled d l) s
 
-behind : {K : Type 0} (e : Refusal) (said : Result Done Refusal) (l n : State K) (s t : StoreView)
-    → HaltsBehind e said l n s t → n.halted ≡ true
-behind e (Ok d) l n s t (inl h) = ap (λ (x : State _). x.halted) h.1
-behind e (Ok d) l n s t (inr h) = ap (λ (x : State _). x.halted) h.0
-behind e (Err r) l n s t h = absurd h
+pub message_recorded : {K : Type 0} (keys : Signer) (l : State K) (m : Message) (s : StoreView)
+    → StaysRecorded (taken_alone (is_update m)) (handled_beside s.records keys l m) l s
+message_recorded keys l m s d said same has = handled_has keys l m d s said same has
+
+pub command_recorded : {K : Type 0} (keys : Signer) (l : State K) (c : command.Command) (s : StoreView)
+    → StaysRecorded (λ os. sent_alone (sends_update c)) (commanded keys l c) l s
+command_recorded keys l c s d said same has = commanded_has keys l c d s said same has
+
+pub change_has : {K : Type 0} (d : Done) (l : State K) (x : Option Side) (s t : StoreView)
+    → SavesChange x (reached d l) s t → (has_same_record x d.stage ≡ true → HasLink (settled d l) s)
+    → HasLink (settled d l) t
+change_has d l x s t saves same = by (has_same_record x d.stage) refl saves
+  where
+    by : (b : Bool) → has_same_record x d.stage ≡ b
+        → SavesIf (not b) l.failure (saved_end (settled d l).stage) s t → HasLink (settled d l) t
+    by false e saved = has_saved l.failure (saved_end (settled d l).stage) s t saved
+    by true e still = subst (HasLink (settled d l)) (sym still) (same e)
+
+handed : {K : Type 0} (brings : List Output → Option Side) (said : Result Done Refusal) (l n : State K)
+    (os : List Output) (s t : StoreView) → StaysRecorded brings said l s → HandsOut brings (λ x. x) said l os n s t
+    → HasLink l s → HasLink n t
+handed brings (Ok d) l n os s t same h has =
+    subst (λ (x : State _). HasLink x t) (sym h.1)
+    (change_has d l (brings d.outputs) s t h.2 (λ e. same d refl e has))
+handed brings (Err r) l n os s t same h has = absurd h
+
+behind : {K : Type 0} (brings : List Output → Option Side) (e : Refusal) (said : Result Done Refusal) (l n : State K)
+    (s t : StoreView) → HaltsBehind brings e said l n s t → n.halted ≡ true
+behind brings e (Ok d) l n s t (inl h) = ap (λ (x : State _). x.halted) h.1
+behind brings e (Ok d) l n s t (inr h) = ap (λ (x : State _). x.halted) h.1.0
+behind brings e (Err r) l n s t h = absurd h
 
 refusing : {K : Type 0} (e : Refusal) (said : Result Done Refusal) (l n : State K) (s t : StoreView)
     → HaltsRefused e said l n s t → n.halted ≡ true
@@ -140,21 +170,28 @@ refusing e (Ok d) l n s t h = absurd h
 refusing e (Err r) l n s t h = ap (λ (x : State _). x.halted) h.1.0
 
 message_stays : {K : Type 0} (said : Result Done Refusal) (l n : State K) (m : Message)
-    (answer : Result (List Output) Refusal) (s t : StoreView)
+    (answer : Result (List Output) Refusal) (s t : StoreView) → StaysRecorded (taken_alone (is_update m)) said l s
     → AnswersMessage (λ x. x) said l m answer n s t → HasLink l s → Stays n t
-message_stays said l n m (Ok os) s t h has = inr (handed said l n os s t h)
-message_stays said l n m (Err e) s t (inl h) has = inl (has_halted l n h.1)
-message_stays said l n m (Err e) s t (inr (inl h)) has = inl (behind e said l n s t h)
-message_stays said l n m (Err e) s t (inr (inr (inl h))) has = inl (refusing e said l n s t h)
-message_stays said l n m (Err e) s t (inr (inr (inr h))) has =
+message_stays said l n m (Ok os) s t same h has =
+    inr (handed (taken_alone (is_update m)) said l n os s t same h has)
+message_stays said l n m (Err e) s t same (inl h) has = inl (has_halted l n h.1)
+message_stays said l n m (Err e) s t same (inr (inl h)) has =
+    inl (behind (taken_alone (is_update m)) e said l n s t h)
+message_stays said l n m (Err e) s t same (inr (inr (inl h))) has = inl (refusing e said l n s t h)
+message_stays said l n m (Err e) s t same (inr (inr (inr h))) has =
     moved n (refused e l) t h.1 (inr (refused_by e l s t (fails_now e l) refl h.2 has))
 
-command_stays : {K : Type 0} (said : Result Done Refusal) (l n : State K) (answer : Result (List Output) Refusal)
-    (s t : StoreView) → AnswersCommand (λ x. x) said l answer n s t → HasLink l s → Stays n t
-command_stays said l n (Ok os) s t h has = inr (handed said l n os s t h)
-command_stays said l n (Err e) s t (inl h) has = inl (has_halted l n h.1)
-command_stays said l n (Err e) s t (inr (inl h)) has = inl (behind e said l n s t h)
-command_stays said l n (Err e) s t (inr (inr h)) has = moved n l t h.1 (inr (subst (HasLink l) (sym h.2) has))
+command_stays : {K : Type 0} (said : Result Done Refusal) (l n : State K) (c : command.Command)
+    (answer : Result (List Output) Refusal) (s t : StoreView)
+    → StaysRecorded (λ os. sent_alone (sends_update c)) said l s → AnswersCommand (λ x. x) said l c answer n s t
+    → HasLink l s → Stays n t
+command_stays said l n c (Ok os) s t same h has =
+    inr (handed (λ os. sent_alone (sends_update c)) said l n os s t same h has)
+command_stays said l n c (Err e) s t same (inl h) has = inl (has_halted l n h.1)
+command_stays said l n c (Err e) s t same (inr (inl h)) has =
+    inl (behind (λ os. sent_alone (sends_update c)) e said l n s t h)
+command_stays said l n c (Err e) s t same (inr (inr h)) has =
+    moved n l t h.1 (inr (subst (HasLink l) (sym h.2) has))
 
 -- a connection that comes keeps the end
 abbrev end_in : Result Done Refusal → Option End
@@ -195,15 +232,17 @@ connect_stays keys l n (Err e) s (inr h) has = moved n l s h.1 (inr has)
 -- a message over a store
 over_stays : {K : Type 0} (keys : Signer) (l n : State K) (m : Message) (answer : Result (List Output) Refusal)
     (s t : StoreView) → AnswersOver (λ x. x) keys l m answer n s t → HasLink l s → Stays n t
-over_stays keys l n m (Ok os) s t h has = message_stays (handled_beside s.records keys l m) l n m (Ok os) s t h has
+over_stays keys l n m (Ok os) s t h has =
+    message_stays (handled_beside s.records keys l m) l n m (Ok os) s t (message_recorded keys l m s) h has
 over_stays keys l n m (Err e) s t (inl h) has = inl (ap (λ (x : State _). x.halted) h.halts)
 over_stays keys l n m (Err e) s t (inr h) has =
-    message_stays (handled_beside s.records keys l m) l n m (Err e) s t h has
+    message_stays (handled_beside s.records keys l m) l n m (Err e) s t (message_recorded keys l m s) h has
 
 pub call_stays : {K : Type 0} (keys : Signer) (c : Call) (l k : State K) (s t : StoreView) → Leads keys c l s k t
     → HasLink l s → Stays k t
 call_stays keys (Handle m) l k s t h has = over_stays keys l k m h.0 s t h.1 has
-call_stays keys (Command c) l k s t h has = command_stays (commanded keys l c) l k h.0 s t h.1 has
+call_stays keys (Command c) l k s t h has =
+    command_stays (commanded keys l c) l k c h.0 s t (command_recorded keys l c s) h.1 has
 call_stays keys Connect l k s t h has =
     subst (Stays k) (sym h.2) (connect_stays keys l k h.0 s h.1 has)
 call_stays keys DropConnection l k s t h has =
@@ -232,10 +271,10 @@ message_still : {K : Type 0} (said : Result Done Refusal) (l n : State K) (m : M
     (answer : Result (List Output) Refusal) (s t : StoreView) → said ≡ Err refusal.Halted → l.halted ≡ true
     → AnswersMessage (λ x. x) said l m answer n s t → IsStill n s t
 message_still said l n m (Ok os) s t is h a =
-    absurd (subst (λ r. HandsOut (λ x. x) r l os n s t) is a)
+    absurd (subst (λ r. HandsOut (taken_alone (is_update m)) (λ x. x) r l os n s t) is a)
 message_still said l n m (Err e) s t is h (inl a) = (has_halted l n a.1, a.2)
 message_still said l n m (Err e) s t is h (inr (inl a)) =
-    absurd (subst (λ r. HaltsBehind e r l n s t) is a)
+    absurd (subst (λ r. HaltsBehind (taken_alone (is_update m)) e r l n s t) is a)
 message_still said l n m (Err e) s t is h (inr (inr (inl a))) =
     let f : HaltsRefused e (Err refusal.Halted) l n s t =
     subst (λ r. HaltsRefused e r l n s t) is a in
@@ -245,14 +284,15 @@ message_still said l n m (Err e) s t is h (inr (inr (inl a))) =
 message_still said l n m (Err e) s t is h (inr (inr (inr a))) =
     still n l s t (a.1 ∙ refused_halted e l h) h (no_failure e l s t h a.2)
 
-command_still : {K : Type 0} (said : Result Done Refusal) (l n : State K) (answer : Result (List Output) Refusal)
-    (s t : StoreView) → said ≡ Err refusal.Halted → l.halted ≡ true → AnswersCommand (λ x. x) said l answer n s t
-    → IsStill n s t
-command_still said l n (Ok os) s t is h a = absurd (subst (λ r. HandsOut (λ x. x) r l os n s t) is a)
-command_still said l n (Err e) s t is h (inl a) = (has_halted l n a.1, a.2)
-command_still said l n (Err e) s t is h (inr (inl a)) =
-    absurd (subst (λ r. HaltsBehind e r l n s t) is a)
-command_still said l n (Err e) s t is h (inr (inr a)) = still n l s t a.1 h a.2
+command_still : {K : Type 0} (said : Result Done Refusal) (l n : State K) (c : command.Command)
+    (answer : Result (List Output) Refusal) (s t : StoreView) → said ≡ Err refusal.Halted → l.halted ≡ true
+    → AnswersCommand (λ x. x) said l c answer n s t → IsStill n s t
+command_still said l n c (Ok os) s t is h a =
+    absurd (subst (λ r. HandsOut (λ os. sent_alone (sends_update c)) (λ x. x) r l os n s t) is a)
+command_still said l n c (Err e) s t is h (inl a) = (has_halted l n a.1, a.2)
+command_still said l n c (Err e) s t is h (inr (inl a)) =
+    absurd (subst (λ r. HaltsBehind (λ os. sent_alone (sends_update c)) e r l n s t) is a)
+command_still said l n c (Err e) s t is h (inr (inr a)) = still n l s t a.1 h a.2
 
 said_halted : {A : Type 0} (b : Bool) (row : Result A Refusal) → b ≡ true
     → (if b then Err refusal.Halted else row) ≡ Err refusal.Halted
@@ -299,7 +339,7 @@ pub call_still : {K : Type 0} (keys : Signer) (c : Call) (l k : State K) (s t : 
 call_still keys (Handle m) l k s t h halted =
     over_still keys l k m h.0 s t halted h.1
 call_still keys (Command c) l k s t h halted =
-    command_still (commanded keys l c) l k h.0 s t (said_halted l.halted _ halted) halted h.1
+    command_still (commanded keys l c) l k c h.0 s t (said_halted l.halted _ halted) halted h.1
 call_still keys Connect l k s t h halted = (connect_still keys l k h.0 s halted h.1, h.2)
 call_still keys DropConnection l k s t h halted =
     (ap (λ (x : State _). x.halted) h.0 ∙ drops_still l halted, h.1)
@@ -385,11 +425,12 @@ unsaved_channel c e m n s t h kept has = by (new_records e m.failure (saved_end 
 as_it_was : (c : List ℕ) (s t : StoreView) → t ≡ s → HasChannel c s → HasChannel c t
 as_it_was c s t is h = subst (HasChannel c) (sym is) h
 
-behind_channel : {K : Type 0} (c : List ℕ) (e : Refusal) (said : Result Done Refusal) (l n : State K) (s t : StoreView)
-    → HaltsBehind e said l n s t → kept_channel n.stage ≡ Some c → HasChannel c s → HasChannel c t
-behind_channel c e (Ok d) l n s t (inl h) kept has = as_it_was c s t h.2 has
-behind_channel c e (Ok d) l n s t (inr h) kept has = unsaved_channel c e (settled d l) n s t h kept has
-behind_channel c e (Err r) l n s t h kept has = absurd h
+behind_channel : {K : Type 0} (c : List ℕ) (brings : List Output → Option Side) (e : Refusal)
+    (said : Result Done Refusal) (l n : State K) (s t : StoreView) → HaltsBehind brings e said l n s t
+    → kept_channel n.stage ≡ Some c → HasChannel c s → HasChannel c t
+behind_channel c brings e (Ok d) l n s t (inl h) kept has = as_it_was c s t h.2 has
+behind_channel c brings e (Ok d) l n s t (inr h) kept has = unsaved_channel c e (settled d l) n s t h.1 kept has
+behind_channel c brings e (Err r) l n s t h kept has = absurd h
 
 refusing_channel : {K : Type 0} (c : List ℕ) (e : Refusal) (said : Result Done Refusal) (l n : State K)
     (s t : StoreView)
@@ -403,41 +444,46 @@ of_link : {K : Type 0} (c : List ℕ) (n : State K) (t : StoreView) → kept_cha
 of_link c n t kept has = of_stage c n.failure n.stage t kept has
 
 message_channel : {K : Type 0} (c : List ℕ) (said : Result Done Refusal) (l n : State K) (m : Message)
-    (answer : Result (List Output) Refusal) (s t : StoreView)
+    (answer : Result (List Output) Refusal) (s t : StoreView) → StaysRecorded (taken_alone (is_update m)) said l s
     → AnswersMessage (λ x. x) said l m answer n s t → HasLink l s
     → kept_channel n.stage ≡ Some c → HasChannel c s → HasChannel c t
-message_channel c said l n m (Ok os) s t h has kept old = of_link c n t kept (handed said l n os s t h)
-message_channel c said l n m (Err e) s t (inl h) has kept old = as_it_was c s t h.2 old
-message_channel c said l n m (Err e) s t (inr (inl h)) has kept old = behind_channel c e said l n s t h kept old
-message_channel c said l n m (Err e) s t (inr (inr (inl h))) has kept old =
+message_channel c said l n m (Ok os) s t same h has kept old =
+    of_link c n t kept (handed (taken_alone (is_update m)) said l n os s t same h has)
+message_channel c said l n m (Err e) s t same (inl h) has kept old = as_it_was c s t h.2 old
+message_channel c said l n m (Err e) s t same (inr (inl h)) has kept old =
+    behind_channel c (taken_alone (is_update m)) e said l n s t h kept old
+message_channel c said l n m (Err e) s t same (inr (inr (inl h))) has kept old =
     refusing_channel c e said l n s t h kept old
-message_channel c said l n m (Err e) s t (inr (inr (inr h))) has kept old =
+message_channel c said l n m (Err e) s t same (inr (inr (inr h))) has kept old =
     of_link c n t kept (subst (λ (x : State _). HasLink x t) (sym h.1)
     (refused_by e l s t (fails_now e l) refl h.2 has))
 
-command_channel : {K : Type 0} (c : List ℕ) (said : Result Done Refusal) (l n : State K)
-    (answer : Result (List Output) Refusal) (s t : StoreView) → AnswersCommand (λ x. x) said l answer n s t
-    → kept_channel n.stage ≡ Some c → HasChannel c s → HasChannel c t
-command_channel c said l n (Ok os) s t h kept old = of_link c n t kept (handed said l n os s t h)
-command_channel c said l n (Err e) s t (inl h) kept old = as_it_was c s t h.2 old
-command_channel c said l n (Err e) s t (inr (inl h)) kept old = behind_channel c e said l n s t h kept old
-command_channel c said l n (Err e) s t (inr (inr h)) kept old = as_it_was c s t h.2 old
+command_channel : {K : Type 0} (c : List ℕ) (said : Result Done Refusal) (l n : State K) (x : command.Command)
+    (answer : Result (List Output) Refusal) (s t : StoreView)
+    → StaysRecorded (λ os. sent_alone (sends_update x)) said l s → AnswersCommand (λ y. y) said l x answer n s t
+    → HasLink l s → kept_channel n.stage ≡ Some c → HasChannel c s → HasChannel c t
+command_channel c said l n x (Ok os) s t same h has kept old =
+    of_link c n t kept (handed (λ os. sent_alone (sends_update x)) said l n os s t same h has)
+command_channel c said l n x (Err e) s t same (inl h) has kept old = as_it_was c s t h.2 old
+command_channel c said l n x (Err e) s t same (inr (inl h)) has kept old =
+    behind_channel c (λ os. sent_alone (sends_update x)) e said l n s t h kept old
+command_channel c said l n x (Err e) s t same (inr (inr h)) has kept old = as_it_was c s t h.2 old
 
 over_channel : {K : Type 0} (c : List ℕ) (keys : Signer) (l n : State K) (m : Message)
     (answer : Result (List Output) Refusal) (s t : StoreView) → AnswersOver (λ x. x) keys l m answer n s t → HasLink l s
     → kept_channel n.stage ≡ Some c → HasChannel c s → HasChannel c t
 over_channel c keys l n m (Ok os) s t h has kept old =
-    message_channel c (handled_beside s.records keys l m) l n m (Ok os) s t h has kept old
+    message_channel c (handled_beside s.records keys l m) l n m (Ok os) s t (message_recorded keys l m s) h has kept old
 over_channel c keys l n m (Err e) s t (inl h) has kept old = same_records c s t h.records old
 over_channel c keys l n m (Err e) s t (inr h) has kept old =
-    message_channel c (handled_beside s.records keys l m) l n m (Err e) s t h has kept old
+    message_channel c (handled_beside s.records keys l m) l n m (Err e) s t (message_recorded keys l m s) h has kept old
 
 call_channel : {K : Type 0} (keys : Signer) (c : List ℕ) (x : Call) (l k : State K) (s t : StoreView)
     → Leads keys x l s k t → HasLink l s → kept_channel k.stage ≡ Some c → HasChannel c s → HasChannel c t
 call_channel keys c (Handle m) l k s t h has kept old =
     over_channel c keys l k m h.0 s t h.1 has kept old
 call_channel keys c (Command x) l k s t h has kept old =
-    command_channel c (commanded keys l x) l k h.0 s t h.1 kept old
+    command_channel c (commanded keys l x) l k x h.0 s t (command_recorded keys l x s) h.1 has kept old
 call_channel keys c Connect l k s t h has kept old = as_it_was c s t h.2 old
 call_channel keys c DropConnection l k s t h has kept old = as_it_was c s t h.1 old
 call_channel keys c Halt l k s t h has kept old = as_it_was c s t h.1 old

@@ -1,19 +1,23 @@
 -- What a store has of a link that has halted: the record of what it was before the call by which it did, or of what
 -- that call made of it.
 use Rattle.std.proofs.Common.{refl, sym, ◌∙◌, ap, subst, inl, inr, ◌≡◌, ◌⊎◌, List, [], ◌∷◌, Bool, true, false}
-use Rattle.std.proofs.Common.{Result, Ok, Err}
+use Rattle.std.proofs.Common.{Option, Result, Ok, Err}
 use Rattle.ln_msgs.specs.declared.messages.message.Message.{Message}
 use Rattle.ln_msgs.specs.declared.refusals.refusal.Refusal.{Refusal}
 use Rattle.ln_keys.specs.Signer.{Signer}
+use Rattle.ln_log.specs.declared.log.Side.{Side}
+use Rattle.ln_channel.specs.declared.command.Command as command
 use Rattle.ln_channel.specs.declared.output.Output.{Output}
 use Rattle.ln_channel.specs.Record.{saved_end}
 use Rattle.ln_channel.specs.State.{State, refused}
 use Rattle.ln_channel.specs.Step.{Done, commanded}
 use Rattle.ln_link.specs.Saving.{StoreView, HandsOut, HaltsUnsaved, HaltsBehind, HaltsRefused, SavesFailure, fails_now}
 use Rattle.ln_link.specs.Saving.{AnswersMessage, AnswersCommand, AnswersOver, handled_beside, settled}
+use Rattle.ln_link.specs.Saving.{is_update, sends_update, taken_alone, sent_alone}
 use Rattle.ln_link.specs.Calls.{Call, Handle, Command, Connect, DropConnection, Halt, Leads, Lead}
 use Rattle.ln_link.specs.Calls.{Has, HasLink, left_by, made_by, HaltsWithRecord}
-use Rattle.ln_link.proofs.Calls.{Stays, has_saved, refused_by, call_stays, call_still, new_records}
+use Rattle.ln_link.proofs.Calls.{Stays, StaysRecorded, refused_by, message_recorded, command_recorded, change_has}
+use Rattle.ln_link.proofs.Calls.{call_stays, call_still, new_records}
 
 -- ---- one call
 
@@ -24,10 +28,12 @@ HasOne l made t = HasLink l t ⊎ HasLink made t
 as_before : {K : Type 0} (l made : State K) (s t : StoreView) → t ≡ s → HasLink l s → HasOne l made t
 as_before l made s t is has = inl (subst (HasLink l) (sym is) has)
 
-handed_one : {K : Type 0} (said : Result Done Refusal) (refusing : Refusal → State K) (l n : State K) (os : List Output)
-    (s t : StoreView) → HandsOut (λ x. x) said l os n s t → HasOne l (left_by said refusing l) t
-handed_one (Ok d) refusing l n os s t h = inr (has_saved l.failure (saved_end (settled d l).stage) s t h.2)
-handed_one (Err r) refusing l n os s t h = absurd h
+handed_one : {K : Type 0} (brings : List Output → Option Side) (said : Result Done Refusal)
+    (refusing : Refusal → State K) (l n : State K) (os : List Output) (s t : StoreView) → StaysRecorded brings said l s
+    → HandsOut brings (λ x. x) said l os n s t → HasLink l s → HasOne l (left_by said refusing l) t
+handed_one brings (Ok d) refusing l n os s t same h has =
+    inr (change_has d l (brings d.outputs) s t h.2 (λ e. same d refl e has))
+handed_one brings (Err r) refusing l n os s t same h has = absurd h
 
 unsaved_one : {K : Type 0} (e : Refusal) (l m n : State K) (s t : StoreView) → HaltsUnsaved e m n s t → HasLink l s
     → HasOne l m t
@@ -37,11 +43,12 @@ unsaved_one e l m n s t h has = by (new_records e m.failure (saved_end m.stage) 
     by (inl same) = inl (subst (Has l.failure (saved_end l.stage)) (sym same) has)
     by (inr new) = inr new
 
-behind_one : {K : Type 0} (e : Refusal) (said : Result Done Refusal) (refusing : Refusal → State K) (l n : State K)
-    (s t : StoreView) → HaltsBehind e said l n s t → HasLink l s → HasOne l (left_by said refusing l) t
-behind_one e (Ok d) refusing l n s t (inl h) has = as_before l (settled d l) s t h.2 has
-behind_one e (Ok d) refusing l n s t (inr h) has = unsaved_one e l (settled d l) n s t h has
-behind_one e (Err r) refusing l n s t h has = absurd h
+behind_one : {K : Type 0} (brings : List Output → Option Side) (e : Refusal) (said : Result Done Refusal)
+    (refusing : Refusal → State K) (l n : State K) (s t : StoreView) → HaltsBehind brings e said l n s t → HasLink l s
+    → HasOne l (left_by said refusing l) t
+behind_one brings e (Ok d) refusing l n s t (inl h) has = as_before l (settled d l) s t h.2 has
+behind_one brings e (Ok d) refusing l n s t (inr h) has = unsaved_one e l (settled d l) n s t h.1 has
+behind_one brings e (Err r) refusing l n s t h has = absurd h
 
 refused_one : {K : Type 0} (e : Refusal) (said : Result Done Refusal) (l n : State K) (s t : StoreView)
     → HaltsRefused e said l n s t → HasLink l s → HasOne l (left_by said (λ r. refused r l) l) t
@@ -55,36 +62,43 @@ kept_one e said l s t is saves has =
     (inr (refused_by e l s t (fails_now e l) refl saves has))
 
 message_one : {K : Type 0} (said : Result Done Refusal) (l n : State K) (m : Message)
-    (answer : Result (List Output) Refusal) (s t : StoreView) → AnswersMessage (λ x. x) said l m answer n s t
-    → HasLink l s → HasOne l (left_by said (λ r. refused r l) l) t
-message_one said l n m (Ok os) s t h has = handed_one said (λ r. refused r l) l n os s t h
-message_one said l n m (Err e) s t (inl h) has = as_before l (left_by said (λ r. refused r l) l) s t h.2 has
-message_one said l n m (Err e) s t (inr (inl h)) has = behind_one e said (λ r. refused r l) l n s t h has
-message_one said l n m (Err e) s t (inr (inr (inl h))) has = refused_one e said l n s t h has
-message_one said l n m (Err e) s t (inr (inr (inr h))) has = kept_one e said l s t h.0 h.2 has
+    (answer : Result (List Output) Refusal) (s t : StoreView) → StaysRecorded (taken_alone (is_update m)) said l s
+    → AnswersMessage (λ x. x) said l m answer n s t → HasLink l s → HasOne l (left_by said (λ r. refused r l) l) t
+message_one said l n m (Ok os) s t same h has =
+    handed_one (taken_alone (is_update m)) said (λ r. refused r l) l n os s t same h has
+message_one said l n m (Err e) s t same (inl h) has = as_before l (left_by said (λ r. refused r l) l) s t h.2 has
+message_one said l n m (Err e) s t same (inr (inl h)) has =
+    behind_one (taken_alone (is_update m)) e said (λ r. refused r l) l n s t h has
+message_one said l n m (Err e) s t same (inr (inr (inl h))) has = refused_one e said l n s t h has
+message_one said l n m (Err e) s t same (inr (inr (inr h))) has = kept_one e said l s t h.0 h.2 has
 
-command_one : {K : Type 0} (said : Result Done Refusal) (l n : State K) (answer : Result (List Output) Refusal)
-    (s t : StoreView) → AnswersCommand (λ x. x) said l answer n s t → HasLink l s
-    → HasOne l (left_by said (λ r. l) l) t
-command_one said l n (Ok os) s t h has = handed_one said (λ r. l) l n os s t h
-command_one said l n (Err e) s t (inl h) has = as_before l (left_by said (λ r. l) l) s t h.2 has
-command_one said l n (Err e) s t (inr (inl h)) has = behind_one e said (λ r. l) l n s t h has
-command_one said l n (Err e) s t (inr (inr h)) has = as_before l (left_by said (λ r. l) l) s t h.2 has
+command_one : {K : Type 0} (said : Result Done Refusal) (l n : State K) (c : command.Command)
+    (answer : Result (List Output) Refusal) (s t : StoreView)
+    → StaysRecorded (λ os. sent_alone (sends_update c)) said l s → AnswersCommand (λ x. x) said l c answer n s t
+    → HasLink l s → HasOne l (left_by said (λ r. l) l) t
+command_one said l n c (Ok os) s t same h has =
+    handed_one (λ os. sent_alone (sends_update c)) said (λ r. l) l n os s t same h has
+command_one said l n c (Err e) s t same (inl h) has = as_before l (left_by said (λ r. l) l) s t h.2 has
+command_one said l n c (Err e) s t same (inr (inl h)) has =
+    behind_one (λ os. sent_alone (sends_update c)) e said (λ r. l) l n s t h has
+command_one said l n c (Err e) s t same (inr (inr h)) has = as_before l (left_by said (λ r. l) l) s t h.2 has
 
 over_one : {K : Type 0} (keys : Signer) (l n : State K) (m : Message) (answer : Result (List Output) Refusal)
     (s t : StoreView) → AnswersOver (λ x. x) keys l m answer n s t → HasLink l s
     → HasOne l (made_by keys (Handle m) l s) t
-over_one keys l n m (Ok os) s t h has = message_one (handled_beside s.records keys l m) l n m (Ok os) s t h has
+over_one keys l n m (Ok os) s t h has =
+    message_one (handled_beside s.records keys l m) l n m (Ok os) s t (message_recorded keys l m s) h has
 over_one keys l n m (Err e) s t (inl h) has =
     inl (subst (Has l.failure (saved_end l.stage)) (sym h.records) has)
 over_one keys l n m (Err e) s t (inr h) has =
-    message_one (handled_beside s.records keys l m) l n m (Err e) s t h has
+    message_one (handled_beside s.records keys l m) l n m (Err e) s t (message_recorded keys l m s) h has
 
 call_one : {K : Type 0} (keys : Signer) (c : Call) (l k : State K) (s t : StoreView)
     → Leads keys c l s k t → HasLink l s
     → HasOne l (made_by keys c l s) t
 call_one keys (Handle m) l k s t h has = over_one keys l k m h.0 s t h.1 has
-call_one keys (Command c) l k s t h has = command_one (commanded keys l c) l k h.0 s t h.1 has
+call_one keys (Command c) l k s t h has =
+    command_one (commanded keys l c) l k c h.0 s t (command_recorded keys l c s) h.1 has
 call_one keys Connect l k s t h has = as_before l l s t h.2 has
 call_one keys DropConnection l k s t h has = as_before l l s t h.1 has
 call_one keys Halt l k s t h has = as_before l l s t h.1 has

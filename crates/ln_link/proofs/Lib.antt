@@ -10,4 +10,5 @@ pub mod Taken
 pub mod Calls
 pub mod Halting
 pub mod Written
+pub mod Uncovered
 pub mod Saved

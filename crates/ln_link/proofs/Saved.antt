@@ -1,33 +1,62 @@
--- A call of a link that is saved behind what it did.
-use Rattle.std.proofs.Common.{List, Result, Ok, Err, inr}
+-- A call of a link that is saved behind what it did, where it has to be.
+use Rattle.std.proofs.Common.{◌≡◌, ◌∙◌, ap, subst, sym, List, Bool, true, false, not, ◌&&◌, Option, Result, Ok, Err}
+use Rattle.std.proofs.Common.{inr}
 use Rattle.ln_msgs.specs.declared.refusals.refusal.Refusal.{Refusal}
+use Rattle.ln_log.specs.declared.log.Side.{Side}
+use Rattle.ln_log.specs.Log.{Counts, same_counts}
 use Rattle.ln_channel.specs.declared.output.Output.{Output}
 use Rattle.ln_channel.specs.Base.{based_link}
 use Rattle.ln_channel.specs.Record.{saved_end}
 use Rattle.ln_channel.specs.State.{State, StandsFor}
 use Rattle.ln_channel.specs.Step.{Done, Reaches}
-use Rattle.ln_link.specs.Saving.{StoreView, IsSaved, Keeps, Settles, HandsOut, HaltsAnswered, HaltsBehind, reached}
+use Rattle.ln_link.specs.Saving.{StoreView, SavesIf, SavesChange, Keeps, Settles, HandsOut, HaltsAnswered}
+use Rattle.ln_link.specs.Saving.{HaltsBehind, is_forgotten, base_in, has_same_record, reached}
 
 -- it is saved, and handed out
-pub handed_so : {K V : Type 0} (outs : V → List Output) (said : Result Done Refusal) (l mid new : State K) (v : V)
-    (before behind : StoreView) → Reaches outs said l v mid
-    → ((k : State K) → StandsFor mid k
-    → StandsFor new (based_link k) × IsSaved k.failure (saved_end (based_link k).stage) before behind)
-    → HandsOut outs said l v new before behind
-handed_so outs (Ok d) l mid new v before behind did keeps =
-    let kept = keeps (reached d l) did.1 in (did.0, kept.0, kept.1)
-handed_so outs (Err r) l mid new v before behind did keeps = absurd did
+pub handed_so : {K V : Type 0} (brings : List Output → Option Side) (outs : V → List Output)
+    (said : Result Done Refusal) (l mid new : State K) (v : V) (x : Option Side) (before behind : StoreView)
+    → Reaches outs said l v mid → x ≡ brings (outs v)
+    → ((k : State K) → StandsFor mid k → StandsFor new (based_link k) × SavesChange x k before behind)
+    → HandsOut brings outs said l v new before behind
+handed_so brings outs (Ok d) l mid new v x before behind did is keeps =
+    let kept = keeps (reached d l) did.1 in (
+      did.0,
+      kept.0,
+      subst (λ y. SavesChange y (reached d l) before behind) (is ∙ ap brings did.0) kept.1,
+    )
+handed_so brings outs (Err r) l mid new v x before behind did is keeps = absurd did
 
 -- it couldn't be saved
-pub halted_so : {K V : Type 0} (outs : V → List Output) (said : Result Done Refusal) (l mid new : State K) (v : V)
-    (e : Refusal) (before behind : StoreView) → Reaches outs said l v mid
-    → ((k : State K) → StandsFor mid k → HaltsAnswered e k new before behind)
-    → HaltsBehind e said l new before behind
-halted_so outs (Ok d) l mid new v e before behind did halts = halts (reached d l) did.1
-halted_so outs (Err r) l mid new v e before behind did halts = absurd did
+pub halted_so : {K V : Type 0} (brings : List Output → Option Side) (outs : V → List Output)
+    (said : Result Done Refusal) (l mid new : State K) (v : V) (x : Option Side) (e : Refusal)
+    (before behind : StoreView) → Reaches outs said l v mid → x ≡ brings (outs v)
+    → ((k : State K) → StandsFor mid k → HaltsAnswered x e k new before behind)
+    → HaltsBehind brings e said l new before behind
+halted_so brings outs (Ok d) l mid new v x e before behind did is halts =
+    subst (λ y. HaltsAnswered y e (reached d l) new before behind) (is ∙ ap brings did.0) (halts (reached d l) did.1)
+halted_so brings outs (Err r) l mid new v x e before behind did is halts = absurd did
 
 -- what is kept of a link whose base has moved on
-pub settles_so : {K : Type 0} (r : Result (Unit {0}) Refusal) (l new : State K) (before behind : StoreView)
-    → Keeps r (based_link l) new before behind → Settles r l new before behind
-settles_so (Ok u) l new before behind k = k
-settles_so (Err e) l new before behind k = inr k
+pub settles_so : {K : Type 0} (x : Option Side) (r : Result (Unit {0}) Refusal) (l new : State K)
+    (before behind : StoreView) → has_same_record x l.stage ≡ false → Keeps r (based_link l) new before behind
+    → Settles x r l new before behind
+settles_so x (Ok u) l new before behind isnt k =
+    (k.0, subst (λ b. SavesIf (not b) l.failure (saved_end (based_link l).stage) before behind) (sym isnt) k.1)
+settles_so x (Err e) l new before behind isnt k = inr (isnt, k)
+
+-- that is tested by the base of before and of now
+pub tested_so : {K : Type 0} (x : Option Side) (l : State K) (forgotten same : Bool) (before now : Counts)
+    → forgotten ≡ is_forgotten x (saved_end l.stage) → before ≡ base_in (saved_end l.stage)
+    → now ≡ base_in (saved_end (based_link l).stage) → same ≡ (forgotten && same_counts now before)
+    → has_same_record x l.stage ≡ same
+tested_so x l forgotten same before now is was moved test =
+    sym (test ∙ ap (λ b. b && same_counts now before) is
+    ∙ ap (λ c. is_forgotten x (saved_end l.stage) && same_counts c before) moved
+    ∙ ap (λ c. is_forgotten x (saved_end l.stage) && same_counts (base_in (saved_end (based_link l).stage)) c) was)
+
+-- where its record is what it was
+pub settles_same : {K : Type 0} (x : Option Side) (l new : State K) (before behind : StoreView)
+    → has_same_record x l.stage ≡ true → StandsFor new (based_link l) → behind ≡ before
+    → Settles x (Ok tt) l new before behind
+settles_same x l new before behind is stands still =
+    (stands, subst (λ b. SavesIf (not b) l.failure (saved_end (based_link l).stage) before behind) (sym is) still)

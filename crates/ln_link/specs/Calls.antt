@@ -28,7 +28,7 @@ abbrev pub Leads : {K : Type 0} → Signer → Call → State K → StoreView �
 Leads keys (Handle m) l s l' s' = (answer : Result (List Output) Refusal)
     × AnswersOver (λ os. os) keys l m answer l' s s'
 Leads keys (Command c) l s l' s' = (answer : Result (List Output) Refusal)
-    × AnswersCommand (λ os. os) (commanded keys l c) l answer l' s s'
+    × AnswersCommand (λ os. os) (commanded keys l c) l c answer l' s s'
 Leads keys Connect l s l' s' = (answer : Result (List Output) Refusal)
     × Answered (λ os. os) (connected keys l) l answer l' × (s' ≡ s)
 Leads keys DropConnection l s l' s' = (l' ≡ drops l) × (s' ≡ s)

@@ -1,16 +1,23 @@
 -- A link saves before it hands out: what each call leaves in its store.
-use Rattle.std.specs.Prelude.{◌≡◌, ◌⊎◌, ℕ, List, Bool, true, false, not, ◌&&◌, Option, Some, None, is_none, Result, Ok}
-use Rattle.std.specs.Prelude.{Err, is_some, if◌then◌else◌}
+use Rattle.std.specs.Prelude.{◌≡◌, ◌⊎◌, ℕ, List, length, Bool, true, false, not, ◌&&◌, ◌==◌, nat_lt, Option, Some}
+use Rattle.std.specs.Prelude.{None, is_none, Result, Ok, Err, is_some, if◌then◌else◌}
 use Rattle.std.specs.FinMap as map
 use Rattle.ln_bytes.specs.Answers.{fault_of}
 use Rattle.ln_msgs.specs.Pings.Counted.{HasRisen}
 use Rattle.ln_msgs.specs.declared.messages.message.Message.{Message}
+use Rattle.ln_msgs.specs.declared.messages.message.Message.TheVariants as message
 use Rattle.ln_msgs.specs.declared.refusals.refusal.Refusal.{Refusal}
 use Rattle.ln_msgs.specs.declared.refusals.refusal.Refusal.TheVariants as refusal
 use Rattle.ln_keys.specs.Signer.{Signer}
+use Rattle.ln_log.specs.declared.log.Side.{Side}
+use Rattle.ln_log.specs.declared.log.Side.TheVariants as side
+use Rattle.ln_log.specs.Log.{Log, Counts, none, same_counts}
+use Rattle.ln_channel.specs.declared.command.Command.{Command}
+use Rattle.ln_channel.specs.declared.command.Command.TheVariants as command
 use Rattle.ln_channel.specs.declared.output.Output.{Output}
+use Rattle.ln_channel.specs.declared.machine.Stage.{Stage}
 use Rattle.ln_channel.specs.End.{End}
-use Rattle.ln_channel.specs.Base.{based_link}
+use Rattle.ln_channel.specs.Base.{based_stage, based_link}
 use Rattle.ln_channel.specs.Record.{saved_end}
 use Rattle.ln_channel.specs.Failing.{fails}
 use Rattle.ln_channel.specs.Opening.{LacksBy}
@@ -62,6 +69,11 @@ abbrev pub IsSaved : Option Refusal → Option End → StoreView → StoreView �
 IsSaved failure o before behind =
     HasSaved failure o × (behind ≡ with_records (stored_end failure o before.records) before)
 
+-- saved where it has to be
+abbrev pub SavesIf : Bool → Option Refusal → Option End → StoreView → StoreView → Type 0
+SavesIf true failure o before behind = IsSaved failure o before behind
+SavesIf false failure o before behind = behind ≡ before
+
 abbrev pub Saves : Option Refusal → Option End → Result (Unit {0}) Refusal → StoreView → StoreView → Type 0
 Saves failure o (Ok u) before behind = IsSaved failure o before behind
 Saves failure o (Err e) before behind = IsUnsaved e failure o before behind
@@ -75,20 +87,79 @@ abbrev pub Keeps : {K : Type 0} → Result (Unit {0}) Refusal → State K → St
 Keeps (Ok u) l new before behind = StandsFor new l × IsSaved l.failure (saved_end l.stage) before behind
 Keeps (Err e) l new before behind = HaltsUnsaved e l new before behind
 
+-- ---- an update that no signature covers is in no record
+
+-- the messages with an update (BOLT 2, "Normal Operation"), and the commands that send one
+abbrev pub is_update : Message → Bool
+is_update (message.UpdateAddHtlc m) = true
+is_update (message.UpdateFulfillHtlc m) = true
+is_update (message.UpdateFailHtlc m) = true
+is_update (message.UpdateFailMalformedHtlc m) = true
+is_update (message.UpdateFee m) = true
+is_update m = false
+
+abbrev pub sends_update : Command → Bool
+sends_update (command.Add amount hash expiry onion origin) = true
+sends_update (command.Fulfil id preimage) = true
+sends_update (command.Fail id reason) = true
+sends_update (command.Malformed id sha code) = true
+sends_update (command.Fee feerate) = true
+sends_update c = false
+
+-- whose update it is that a call brought, where it did nothing else: a message does nothing else where nothing is
+-- handed out
+abbrev pub taken_alone : Bool → List Output → Option Side
+taken_alone update os = if update && (length os == 0) then Some side.Peer else None
+
+abbrev pub sent_alone : Bool → Option Side
+sent_alone update = if update then Some side.Own else None
+
+-- no signature covers the last update of a side: a lost connection forgets it (BOLT 2, "Message Retransmission")
+abbrev pub is_uncovered : Side → Log → Bool
+is_uncovered side.Own l = nat_lt l.signed.own (length l.own)
+is_uncovered side.Peer l = nat_lt l.current.peer (length l.received)
+
+-- the last update of the side that brought one
+abbrev pub is_forgotten : Option Side → Option End → Bool
+is_forgotten (Some x) (Some e) = is_uncovered x e.dance.log
+is_forgotten x o = false
+
+-- how many updates of both sides are in the base of an end
+abbrev pub base_in : Option End → Counts
+base_in (Some e) = e.dance.log.first
+base_in None = none
+
+-- the base doesn't move on
+abbrev pub is_based : Stage → Bool
+is_based s = same_counts (base_in (saved_end (based_stage s))) (base_in (saved_end s))
+
+-- The record is what it was: all that a call brought is an update that no signature covers, and the base stands where
+-- it stood.
+abbrev pub has_same_record : Option Side → Stage → Bool
+has_same_record brought s = is_forgotten brought (saved_end s) && is_based s
+
+-- a link whose base moves on is saved, unless its record is what it was
+abbrev pub SavesChange : {K : Type 0} → Option Side → State K → StoreView → StoreView → Type 0
+SavesChange brought l before behind =
+    SavesIf (not (has_same_record brought l.stage)) l.failure (saved_end (based_link l).stage) before behind
+
+-- ---- behind what a call made of a link
+
 -- it halts as its base can't move on for want of memory, and nothing was to be saved yet
 abbrev pub HaltsUnsettled : {K : Type 0} → Refusal → State K → State K → StoreView → StoreView → Type 0
 HaltsUnsettled e l new before behind = (e ≡ refusal.Memory) × StandsFor new (halts l) × (behind ≡ before)
 
--- what a call made of it couldn't be saved: its base couldn't move on, or the link whose base has
-abbrev pub HaltsAnswered : {K : Type 0} → Refusal → State K → State K → StoreView → StoreView → Type 0
-HaltsAnswered e l new before behind =
-    HaltsUnsettled e l new before behind ⊎ HaltsUnsaved e (based_link l) new before behind
+-- what a call made of it couldn't be saved: its base couldn't move on, or the link whose base has and that had to be
+abbrev pub HaltsAnswered : {K : Type 0} → Option Side → Refusal → State K → State K → StoreView → StoreView → Type 0
+HaltsAnswered brought e l new before behind =
+    HaltsUnsettled e l new before behind
+    ⊎ ((has_same_record brought l.stage ≡ false) × HaltsUnsaved e (based_link l) new before behind)
 
--- behind a call that is answered its base moves on, and what it is then is saved; or else it halts
-abbrev pub Settles : {K : Type 0} → Result (Unit {0}) Refusal → State K → State K → StoreView → StoreView → Type 0
-Settles (Ok u) l new before behind =
-    StandsFor new (based_link l) × IsSaved l.failure (saved_end (based_link l).stage) before behind
-Settles (Err e) l new before behind = HaltsAnswered e l new before behind
+-- behind a call that is answered its base moves on, and what it is then is saved where it has to be; or else it halts
+abbrev pub Settles : {K : Type 0} → Option Side → Result (Unit {0}) Refusal → State K → State K → StoreView
+    → StoreView → Type 0
+Settles brought (Ok u) l new before behind = StandsFor new (based_link l) × SavesChange brought l before behind
+Settles brought (Err e) l new before behind = HaltsAnswered brought e l new before behind
 
 -- it has failed, and hasn't halted
 abbrev pub is_failing : {K : Type 0} → State K → Bool
@@ -111,13 +182,12 @@ reached d l = record l { connection = d.connection; stage = d.stage }
 abbrev pub settled : {K : Type 0} → Done → State K → State K
 settled d l = based_link (reached d l)
 
--- outputs are handed out where the link that they come from is saved
-abbrev pub HandsOut : {K V : Type 0} → (V → List Output) → Result Done Refusal → State K → V → State K
-    → StoreView → StoreView
-    → Type 0
-HandsOut outs (Ok d) l v new before behind =
-    (outs v ≡ d.outputs) × StandsFor new (settled d l) × IsSaved l.failure (saved_end (settled d l).stage) before behind
-HandsOut outs (Err r) l v new before behind = ⊥
+-- outputs are handed out where the link that they come from is saved, or has the record that it had
+abbrev pub HandsOut : {K V : Type 0} → (List Output → Option Side) → (V → List Output) → Result Done Refusal → State K
+    → V → State K → StoreView → StoreView → Type 0
+HandsOut brings outs (Ok d) l v new before behind =
+    (outs v ≡ d.outputs) × StandsFor new (settled d l) × SavesChange (brings d.outputs) (reached d l) before behind
+HandsOut brings outs (Err r) l v new before behind = ⊥
 
 -- it halts for want of memory before anything was to be saved
 abbrev pub HaltsEarly : {K : Type 0} → Bool → Refusal → Result Done Refusal → State K → State K → StoreView → StoreView
@@ -126,28 +196,24 @@ HaltsEarly views e said l new before behind =
     LacksBy views e (fault_of said) × IsHalted l new × (behind ≡ before)
 
 -- by want of memory, or of a save, it halts behind what was done
-abbrev pub HaltsBehind : {K : Type 0} → Refusal → Result Done Refusal → State K → State K → StoreView
-    → StoreView → Type 0
-HaltsBehind e (Ok d) l new before behind = HaltsAnswered e (reached d l) new before behind
-HaltsBehind e (Err r) l new before behind = ⊥
+abbrev pub HaltsBehind : {K : Type 0} → (List Output → Option Side) → Refusal → Result Done Refusal → State K → State K
+    → StoreView → StoreView → Type 0
+HaltsBehind brings e (Ok d) l new before behind = HaltsAnswered (brings d.outputs) e (reached d l) new before behind
+HaltsBehind brings e (Err r) l new before behind = ⊥
 
 -- a command: refused, nothing has changed, and nothing is saved
-abbrev pub AnswersCommand : {K V : Type 0} → (V → List Output) → Result Done Refusal → State K → Result V Refusal
-    → State K → StoreView → StoreView → Type 0
-AnswersCommand outs said l (Ok v) new before behind = HandsOut outs said l v new before behind
-AnswersCommand outs said l (Err e) new before behind =
+abbrev pub AnswersCommand : {K V : Type 0} → (V → List Output) → Result Done Refusal → State K → Command
+    → Result V Refusal → State K → StoreView → StoreView → Type 0
+AnswersCommand outs said l c (Ok v) new before behind =
+    HandsOut (λ os. sent_alone (sends_update c)) outs said l v new before behind
+AnswersCommand outs said l c (Err e) new before behind =
     HaltsEarly false e said l new before behind
-    ⊎ (HaltsBehind e said l new before behind
+    ⊎ (HaltsBehind (λ os. sent_alone (sends_update c)) e said l new before behind
     ⊎ ((said ≡ Err e) × StandsFor new l × (behind ≡ before)))
 
 -- a refusal by which the channel fails now
 abbrev pub fails_now : {K : Type 0} → Refusal → State K → Bool
 fails_now r l = not l.halted && (is_none l.failure && fails r)
-
--- saved where it has to be
-abbrev pub SavesIf : Bool → Option Refusal → Option End → StoreView → StoreView → Type 0
-SavesIf true failure o before behind = IsSaved failure o before behind
-SavesIf false failure o before behind = behind ≡ before
 
 -- a failure of the channel is saved
 abbrev pub SavesFailure : {K : Type 0} → Refusal → State K → StoreView → StoreView → Type 0
@@ -164,10 +230,11 @@ HaltsRefused e (Err r) l new before behind =
 -- a message, by what is said of it: a refusal by which the channel fails is kept and saved
 abbrev pub AnswersMessage : {K V : Type 0} → (V → List Output) → Result Done Refusal → State K → Message
     → Result V Refusal → State K → StoreView → StoreView → Type 0
-AnswersMessage outs said l m (Ok v) new before behind = HandsOut outs said l v new before behind
+AnswersMessage outs said l m (Ok v) new before behind =
+    HandsOut (taken_alone (is_update m)) outs said l v new before behind
 AnswersMessage outs said l m (Err e) new before behind =
     HaltsEarly (makes_view l m) e said l new before behind
-    ⊎ (HaltsBehind e said l new before behind
+    ⊎ (HaltsBehind (taken_alone (is_update m)) e said l new before behind
     ⊎ (HaltsRefused e said l new before behind
     ⊎ ((said ≡ Err e) × StandsFor new (refused e l) × SavesFailure e l before behind)))
 

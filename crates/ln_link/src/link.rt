@@ -1,17 +1,21 @@
 //! One link: one end of a channel that saves before it hands out.
 
-ghost use Rattle.std.specs.Prelude.{◌≡◌, Some, is_none, IfOk, IfErr, OnOk};
+ghost use Rattle.std.specs.Prelude.{◌≡◌, ◌&&◌, Some, is_none, IfOk, IfErr, OnOk};
+ghost use Rattle.ln_log.specs.Log as logs;
+ghost use Rattle.ln_log.specs.Log.{Log, same_counts};
 ghost use Rattle.ln_channel.specs.End as end;
 ghost use Rattle.ln_channel.specs.End.{End};
 ghost use Rattle.ln_channel.specs.Record.{saved_end};
 ghost use Rattle.ln_channel.specs.State.{State, StandsFor};
-ghost use Rattle.ln_link.specs.Saving.{Saves, is_known, CannotTell};
+ghost use Rattle.ln_link.specs.Saving.{Saves, is_update, sends_update, taken_alone, sent_alone, is_uncovered};
+ghost use Rattle.ln_link.specs.Saving.{is_forgotten, base_in, is_known, CannotTell};
 
 use crate::loading::loaded;
 use crate::record::to_record;
 use ln_channel::{Channel, ChannelMachine, Command, FitConfig, FitSpec, Output};
 use ln_hooks::ChannelEvent;
 use ln_keys::ChannelKeys;
+use ln_log::{Counts, Pair, Side, UpdateLog};
 use ln_msgs::{Message, Refusal};
 use ln_store::{RecordStore, encode_record};
 use std::alloc::Global;
@@ -21,10 +25,11 @@ use std::marker::Model;
 /// funder's, as a fundee's, or from its record.
 ///
 /// What a call made of the channel is in the store before any message that tells it leaves this side: a restart finds
-/// what the peer may know of. As it is saved, what it needn't keep one by one any more is left out
-/// (`ChannelMachine::compact`). Where a save fails, by 60 for want of memory, by 61 where the store failed, by 70 where
-/// no record has these items, the link halts and answers 62 from then on; the store then has the record that it had,
-/// or, by 61, perhaps the one that was to be saved.
+/// what the peer may know of. Behind each call that is answered, what it needn't keep one by one any more is left out
+/// (`ChannelMachine::compact`). An update that no signature covers is in no record, as a lost connection forgets it: a
+/// call that brings one, and nothing else, saves nothing, unless more is left out behind it. Where a save fails, by 60
+/// for want of memory, by 61 where the store failed, by 70 where no record has these items, the link halts and answers
+/// 62 from then on; the store then has the record that it had, or, by 61, perhaps the one that was to be saved.
 #[derive(Drop)]
 pub struct Link<K: ChannelKeys + Drop> {
     channel_machine: ChannelMachine<K>,
@@ -83,6 +88,98 @@ fn save_link<K: ChannelKeys + Drop, S: RecordStore>(
         None => Ok(()),
         Some(channel) => save_end(alloc, store, failure, channel),
     }
+}
+
+// Whether a message brings an update.
+fn is_update(message: &Message) -> bool
+    ensures { result ≡ is_update message.now }
+{
+    match message {
+        Message::UpdateAddHtlc(_) => true,
+        Message::UpdateFulfillHtlc(_) => true,
+        Message::UpdateFailHtlc(_) => true,
+        Message::UpdateFailMalformedHtlc(_) => true,
+        Message::UpdateFee(_) => true,
+        _ => false,
+    }
+}
+
+// Whether a command sends one.
+fn sends_update(command: &Command) -> bool
+    ensures { result ≡ sends_update command.now }
+{
+    match command {
+        Command::Add { .. } => true,
+        Command::Fulfil { .. } => true,
+        Command::Fail { .. } => true,
+        Command::Malformed { .. } => true,
+        Command::Fee(_) => true,
+        _ => false,
+    }
+}
+
+// An update that was taken, where it did nothing else.
+fn taken_alone(update: bool, outputs: &[Output]) -> Option<Side>
+    ensures { result ≡ taken_alone update outputs.now }
+{
+    if update && outputs.is_empty() {
+        Some(Side::Peer)
+    } else {
+        None
+    }
+}
+
+// One that was sent.
+fn sent_alone(update: bool) -> Option<Side>
+    ensures { result ≡ sent_alone update }
+{
+    if update { Some(Side::Own) } else { None }
+}
+
+// Whether no signature covers the last update of a side.
+fn is_uncovered(log: &UpdateLog, side: Side) -> bool
+    ensures { (l : Log) → logs.StandsFor log.now l → result ≡ is_uncovered side l }
+{
+    match side {
+        Side::Own => log.counts(Pair::Signed).own < log.len(Side::Own),
+        Side::Peer => log.counts(Pair::Current(Side::Own)).peer < log.len(Side::Peer),
+    }
+}
+
+// Of the side that brought one.
+fn is_forgotten<K: ChannelKeys + Drop>(link: &ChannelMachine<K>, brought: Option<Side>) -> bool
+    ensures { (l : State K) → StandsFor link.now l → result ≡ is_forgotten brought (saved_end l.stage) }
+{
+    match brought {
+        None => false,
+        Some(side) => match link.saved() {
+            None => false,
+            Some(channel) => is_uncovered(channel.dance().log(), side),
+        },
+    }
+}
+
+// How many updates of both sides are in the base of its end.
+fn base_in<K: ChannelKeys + Drop>(link: &ChannelMachine<K>) -> Counts
+    ensures { (l : State K) → StandsFor link.now l → result ≡ base_in (saved_end l.stage) }
+{
+    match link.saved() {
+        None => Counts { own: 0, peer: 0 },
+        Some(channel) => {
+            let log = channel.dance().log();
+            Counts {
+                own: log.first(Side::Own),
+                peer: log.first(Side::Peer),
+            }
+        }
+    }
+}
+
+// Whether the record is what it was, by such an update and by the base before and now.
+fn has_same_record(forgotten: bool, before: Counts, now: Counts) -> bool
+    ensures { result ≡ (forgotten && same_counts now before) }
+{
+    forgotten && now.own == before.own && now.peer == before.peer
 }
 
 // Whether a store has a record of this channel.
@@ -203,15 +300,27 @@ impl<K: ChannelKeys + Drop> Link<K> {
         }
     }
 
-    // Behind a call that is answered its base moves on, and it is saved, or halts.
-    fn finish<S: RecordStore>(&mut self, alloc: Global, store: &mut S) -> Result<(), Refusal>
-        ensures settles { (l : State K) → StandsFor self.old l → Settles result l self.new
+    // Behind a call that is answered its base moves on, and it is saved, unless its record is what it was; or it halts.
+    fn finish<S: RecordStore>(
+        &mut self,
+        alloc: Global,
+        store: &mut S,
+        brought: Option<Side>,
+    ) -> Result<(), Refusal>
+        ensures settles { (l : State K) → StandsFor self.old l → Settles brought result l self.new
             (record { records = S.records store.old; failed = S.failed store.old })
             (record { records = S.records store.new; failed = S.failed store.new }) }
         ensures same_channel { KeepsChannel self.old.stage self.new.stage }
     {
+        let forgotten = is_forgotten(&self.channel_machine, brought);
+        let before = base_in(&self.channel_machine);
         match self.channel_machine.compact(alloc) {
-            Ok(()) => self.save(alloc, store),
+            Ok(()) => {
+                if has_same_record(forgotten, before, base_in(&self.channel_machine)) {
+                    return Ok(());
+                }
+                self.save(alloc, store)
+            }
             Err(refusal) => {
                 self.halt();
                 Err(refusal)
@@ -219,8 +328,9 @@ impl<K: ChannelKeys + Drop> Link<K> {
         }
     }
 
-    /// Takes a message, and saves what it made of the channel before anything is handed out. A refusal by which the
-    /// channel fails is saved too. Where the message opens a channel that the store has a record of, it is refused.
+    /// Takes a message, and saves what it made of the channel before anything is handed out: nothing by an update alone
+    /// that no signature covers. A refusal by which the channel fails is saved too. Where the message opens a channel
+    /// that the store has a record of, it is refused.
     ///
     /// Errors: those of `ChannelMachine::handle`, and 21 for a channel that the store has a record of; 60, 61 and 70
     /// where it can't be saved, or the store can't tell whether it has that channel, by which the link halts.
@@ -264,14 +374,18 @@ impl<K: ChannelKeys + Drop> Link<K> {
         ensures same_channel { KeepsChannel self.old.stage self.new.stage }
     {
         let healthy = is_healthy(&self.channel_machine);
+        let update = is_update(&message);
         match self.channel_machine.handle(alloc, message) {
-            Ok(outputs) => match self.finish(alloc, store) {
-                Ok(()) => Ok(outputs),
-                Err(refusal) => {
-                    drop(outputs);
-                    Err(refusal)
+            Ok(outputs) => {
+                let brought = taken_alone(update, outputs.as_slice());
+                match self.finish(alloc, store, brought) {
+                    Ok(()) => Ok(outputs),
+                    Err(refusal) => {
+                        drop(outputs);
+                        Err(refusal)
+                    }
                 }
-            },
+            }
             Err(refusal) => Err(self.refuse(alloc, store, healthy, refusal)),
         }
     }
@@ -303,7 +417,7 @@ impl<K: ChannelKeys + Drop> Link<K> {
     }
 
     /// Does what it is told, as `ChannelMachine::command` does, and saves what that made of the channel before anything
-    /// is handed out. Where the command is refused nothing is saved.
+    /// is handed out: nothing by an update, which no signature covers yet. Nothing is saved where it is refused.
     ///
     /// Errors: those of `ChannelMachine::command`; 60, 61 and 70 where it can't be saved, by which the link halts.
     pub fn command<S: RecordStore>(
@@ -313,13 +427,14 @@ impl<K: ChannelKeys + Drop> Link<K> {
         command: Command,
     ) -> Result<Vec<Output>, Refusal>
         ensures answers { (l : State K) → StandsFor self.old l
-            → AnswersCommand (λ v. v.items) (commanded (K.signer l.keys) l command) l result self.new
+            → AnswersCommand (λ v. v.items) (commanded (K.signer l.keys) l command) l command result self.new
             (record { records = S.records store.old; failed = S.failed store.old })
             (record { records = S.records store.new; failed = S.failed store.new }) }
         ensures same_channel { KeepsChannel self.old.stage self.new.stage }
     {
+        let brought = sent_alone(sends_update(&command));
         match self.channel_machine.command(alloc, command) {
-            Ok(outputs) => match self.finish(alloc, store) {
+            Ok(outputs) => match self.finish(alloc, store, brought) {
                 Ok(()) => Ok(outputs),
                 Err(refusal) => {
                     drop(outputs);

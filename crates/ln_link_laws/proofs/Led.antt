@@ -5,6 +5,7 @@ use Rattle.ln_msgs.specs.declared.messages.message.Message.{Message}
 use Rattle.ln_msgs.specs.declared.refusals.refusal.Refusal.{Refusal}
 use Rattle.ln_msgs.specs.declared.refusals.refusal.Refusal.TheVariants as refusal
 use Rattle.ln_keys.specs.Signer.{Signer}
+use Rattle.ln_log.specs.declared.log.Side.{Side}
 use Rattle.ln_channel.specs.declared.command.Command as command
 use Rattle.ln_channel.specs.declared.output.Output.{Output}
 use Rattle.ln_channel.specs.declared.machine.ConnectionState.TheVariants.{Down}
@@ -18,7 +19,7 @@ use Rattle.ln_channel.specs.Step.{connected, Reaches}
 use Rattle.ln_channel.specs.State.{is_down}
 use Rattle.ln_link.specs.Saving.{StoreView, CannotBeStored, FailsBy, IsUnsaved, HandsOut, HaltsBehind, HaltsRefused}
 use Rattle.ln_link.specs.Saving.{fails_now, reached, settled, is_known, handled_beside, CannotTell, AnswersMessage}
-use Rattle.ln_link.specs.Saving.{AnswersCommand, AnswersOver}
+use Rattle.ln_link.specs.Saving.{AnswersCommand, AnswersOver, is_update, sends_update, taken_alone, sent_alone}
 use Rattle.ln_link.specs.Loading.{IsLoadedOf, CameBack}
 use Rattle.ln_link.specs.Calls.{Call, Handle, Command, Connect, DropConnection, Halt, Leads, Lead, left_by, made_by}
 use Rattle.ln_link.proofs.Refusing.{has_halted}
@@ -106,22 +107,22 @@ module _ (k : Signer) (keys : AreKeys k) where
   )
   reaches (Err r) l n os h x = absurd x
 
-  handed : {K : Type 0} (said : Result Done Refusal) (l n : State K) (os : List Output) (s t : StoreView)
-      → SaidOf l said
-      → HandsOut (λ x. x) said l os n s t → Good k keys n × All IsSendable os
-  handed (Ok d) l n os s t (inl h) x = absurd (h.1)
-  handed (Ok d) l n os s t (inr h) x = (
+  handed : {K : Type 0} (brings : List Output → Option Side) (said : Result Done Refusal) (l n : State K)
+      (os : List Output) (s t : StoreView) → SaidOf l said → HandsOut brings (λ x. x) said l os n s t
+      → Good k keys n × All IsSendable os
+  handed brings (Ok d) l n os s t (inl h) x = absurd (h.1)
+  handed brings (Ok d) l n os s t (inr h) x = (
     subst (λ (y : State _). Good k keys y) (sym x.1)
         (settled_lasts k keys (reached d l) (record { failure = h.0.failure; stage = h.1.0 })),
     subst (All IsSendable) (sym x.0) h.1.1,
   )
-  handed (Err r) l n os s t h x = absurd x
+  handed brings (Err r) l n os s t h x = absurd x
 
-  halts_behind : {K : Type 0} (e : Refusal) (said : Result Done Refusal) (l n : State K) (s t : StoreView)
-      → HaltsBehind e said l n s t → n.halted ≡ true
-  halts_behind e (Ok d) l n s t (inl h) = ap (λ (x : State _). x.halted) h.1
-  halts_behind e (Ok d) l n s t (inr h) = ap (λ (x : State _). x.halted) h.0
-  halts_behind e (Err r) l n s t h = absurd h
+  halts_behind : {K : Type 0} (brings : List Output → Option Side) (e : Refusal) (said : Result Done Refusal)
+      (l n : State K) (s t : StoreView) → HaltsBehind brings e said l n s t → n.halted ≡ true
+  halts_behind brings e (Ok d) l n s t (inl h) = ap (λ (x : State _). x.halted) h.1
+  halts_behind brings e (Ok d) l n s t (inr h) = ap (λ (x : State _). x.halted) h.1.0
+  halts_behind brings e (Err r) l n s t h = absurd h
 
   halts_refused : {K : Type 0} (e : Refusal) (said : Result Done Refusal) (l n : State K) (s t : StoreView)
       → HaltsRefused e said l n s t → n.halted ≡ true
@@ -143,9 +144,10 @@ module _ (k : Signer) (keys : AreKeys k) where
   message_stands : {K : Type 0} (said : Result Done Refusal) (l n : State K) (m : Message)
       (answer : Result (List Output) Refusal) (s t : StoreView) → SaidOf l said
       → AnswersMessage (λ x. x) said l m answer n s t → Stands n
-  message_stands said l n m (Ok os) s t h x = inr (handed said l n os s t h x).0
+  message_stands said l n m (Ok os) s t h x = inr (handed (taken_alone (is_update m)) said l n os s t h x).0
   message_stands said l n m (Err e) s t h (inl x) = inl (has_halted l n x.1)
-  message_stands said l n m (Err e) s t h (inr (inl x)) = inl (halts_behind e said l n s t x)
+  message_stands said l n m (Err e) s t h (inr (inl x)) =
+      inl (halts_behind (taken_alone (is_update m)) e said l n s t x)
   message_stands said l n m (Err e) s t h (inr (inr (inl x))) = inl (halts_refused e said l n s t x)
   message_stands said l n m (Err e) s t h (inr (inr (inr x))) = moved n (refused e l) x.1 (refused_stands l said e h)
 
@@ -161,12 +163,15 @@ module _ (k : Signer) (keys : AreKeys k) where
   over_stands l n m (Err e) s t is h (inr x) =
       message_stands (handled_beside s.records k l m) l n m (Err e) s t (over_said l m s is h) x
 
-  command_stands : {K : Type 0} (said : Result Done Refusal) (l n : State K) (answer : Result (List Output) Refusal)
-      (s t : StoreView) → SaidOf l said → AnswersCommand (λ x. x) said l answer n s t → Stands n
-  command_stands said l n (Ok os) s t h x = inr (handed said l n os s t h x).0
-  command_stands said l n (Err e) s t h (inl x) = inl (has_halted l n x.1)
-  command_stands said l n (Err e) s t h (inr (inl x)) = inl (halts_behind e said l n s t x)
-  command_stands said l n (Err e) s t h (inr (inr x)) = moved n l x.1 (as_it_was l said h)
+  command_stands : {K : Type 0} (said : Result Done Refusal) (l n : State K) (c : command.Command)
+      (answer : Result (List Output) Refusal) (s t : StoreView) → SaidOf l said
+      → AnswersCommand (λ x. x) said l c answer n s t → Stands n
+  command_stands said l n c (Ok os) s t h x =
+      inr (handed (λ y. sent_alone (sends_update c)) said l n os s t h x).0
+  command_stands said l n c (Err e) s t h (inl x) = inl (has_halted l n x.1)
+  command_stands said l n c (Err e) s t h (inr (inl x)) =
+      inl (halts_behind (λ y. sent_alone (sends_update c)) e said l n s t x)
+  command_stands said l n c (Err e) s t h (inr (inr x)) = moved n l x.1 (as_it_was l said h)
 
   -- a connection
   connect_stands : {K : Type 0} (said : Result Done Refusal) (l n : State K) (answer : Result (List Output) Refusal)
@@ -185,7 +190,7 @@ module _ (k : Signer) (keys : AreKeys k) where
       → Stands n
   leads_stand (Handle m) l n s t is h x = over_stands l n m x.0 s t is h x.1
   leads_stand (Command c) l n s t is h x =
-      command_stands (commanded k l c) l n x.0 s t (commanded_said l c is h) x.1
+      command_stands (commanded k l c) l n c x.0 s t (commanded_said l c is h) x.1
   leads_stand Connect l n s t is h x = connect_stands (connected k l) l n x.0 (connected_said l h) x.1
   leads_stand DropConnection l n s t is h x = moved n (drops l) x.0 (drops_stands l h)
   leads_stand Halt l n s t is h x = inl (ap (λ (y : State _). y.halted) x.0)
@@ -311,14 +316,14 @@ module _ (k : Signer) (keys : AreKeys k) where
       by (inr (inl y)) = no_record l.failure l.stage h.failure h.stage y.1
       by (inr (inr y)) = no_store y.0
 
-  never_behind : {K : Type 0} (said : Result Done Refusal) (l n : State K) (s t : StoreView) → SaidOf l said
-      → HaltsBehind refusal.Damaged said l n s t → ⊥
-  never_behind (Ok d) l n s t (inl h) x = h.1
-  never_behind (Ok d) l n s t (inr h) (inl x) = no_memory x.0
-  never_behind (Ok d) l n s t (inr h) (inr x) =
+  never_behind : {K : Type 0} (brings : List Output → Option Side) (said : Result Done Refusal) (l n : State K)
+      (s t : StoreView) → SaidOf l said → HaltsBehind brings refusal.Damaged said l n s t → ⊥
+  never_behind brings (Ok d) l n s t (inl h) x = h.1
+  never_behind brings (Ok d) l n s t (inr h) (inl x) = no_memory x.0
+  never_behind brings (Ok d) l n s t (inr h) (inr x) =
       never_unsaved (settled d l) s t
-      (settled_lasts k keys (reached d l) (record { failure = h.0.failure; stage = h.1.0 })) x.1
-  never_behind (Err r) l n s t h x = x
+      (settled_lasts k keys (reached d l) (record { failure = h.0.failure; stage = h.1.0 })) x.1.1
+  never_behind brings (Err r) l n s t h x = x
 
   never_refused : {K : Type 0} (said : Result Done Refusal) (l n : State K) (s t : StoreView) → SaidOf l said
       → HaltsRefused refusal.Damaged said l n s t → ⊥
@@ -333,7 +338,7 @@ module _ (k : Signer) (keys : AreKeys k) where
   never_message : {K : Type 0} (said : Result Done Refusal) (l n : State K) (m : Message) (s t : StoreView)
       → SaidOf l said → AnswersMessage (λ x. x) said l m (Err refusal.Damaged) n s t → ⊥
   never_message said l n m s t h (inl x) = no_memory x.0.0
-  never_message said l n m s t h (inr (inl x)) = never_behind said l n s t h x
+  never_message said l n m s t h (inr (inl x)) = never_behind (taken_alone (is_update m)) said l n s t h x
   never_message said l n m s t h (inr (inr (inl x))) = never_refused said l n s t h x
   never_message said l n m s t h (inr (inr (inr x))) = never_said said l h x.0
 
@@ -349,7 +354,7 @@ module _ (k : Signer) (keys : AreKeys k) where
       never_message (handled_beside s.records k l m) l n m s t (over_said l m s is h) x
   never_gives (Command c) l n s t h is (inl x) = no_memory x.0.0
   never_gives (Command c) l n s t h is (inr (inl x)) =
-      never_behind (commanded k l c) l n s t (commanded_said l c is h) x
+      never_behind (λ y. sent_alone (sends_update c)) (commanded k l c) l n s t (commanded_said l c is h) x
   never_gives (Command c) l n s t h is (inr (inr x)) =
       never_said (commanded k l c) l (commanded_said l c is h) x.0
   never_gives Connect l n s t h is x = by (x.0)
@@ -373,9 +378,11 @@ module _ (k : Signer) (keys : AreKeys k) where
   gives_sendable : {K : Type 0} (c : Call) (os : List Output) (l n : State K) (s t : StoreView) → Stands l → IsCall c
       → Gives k c (Ok os) l s n t → AreSendable os
   gives_sendable (Handle m) os l n s t h is x =
-      all_sendable os (handed (handled_beside s.records k l m) l n os s t (over_said l m s is h) x).1
+      all_sendable os
+      (handed (taken_alone (is_update m)) (handled_beside s.records k l m) l n os s t (over_said l m s is h) x).1
   gives_sendable (Command c) os l n s t h is x =
-      all_sendable os (handed (commanded k l c) l n os s t (commanded_said l c is h) x).1
+      all_sendable os
+      (handed (λ y. sent_alone (sends_update c)) (commanded k l c) l n os s t (commanded_said l c is h) x).1
   gives_sendable Connect os l n s t h is x =
       all_sendable os (reaches (connected k l) l n os (connected_said l h) x.0).1
   gives_sendable DropConnection os l n s t h is x = nothing_sent os x.0

@@ -33,7 +33,7 @@ abbrev pub Gives : {K : Type 0} → Signer → Call → Result (List Output) Ref
     → State K → StoreView
     → Type 0
 Gives keys (Handle m) answer l s l' s' = AnswersOver (λ os. os) keys l m answer l' s s'
-Gives keys (Command c) answer l s l' s' = AnswersCommand (λ os. os) (commanded keys l c) l answer l' s s'
+Gives keys (Command c) answer l s l' s' = AnswersCommand (λ os. os) (commanded keys l c) l c answer l' s s'
 Gives keys Connect answer l s l' s' = Answered (λ os. os) (connected keys l) l answer l' × (s' ≡ s)
 Gives keys DropConnection answer l s l' s' = (answer ≡ Ok []) × (l' ≡ drops l) × (s' ≡ s)
 Gives keys Halt answer l s l' s' = (answer ≡ Ok []) × (l' ≡ halts l) × (s' ≡ s)

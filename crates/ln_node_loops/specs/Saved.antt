@@ -50,7 +50,8 @@ module _ {K : Type 0} (signer : K → Signer) where
   Does s (Handles m) said s' =
       AnswersOver (λ os. os) (signer s.link.keys) s.link m said s'.link s.store_view s'.store_view
   Does s (Obeys c) said s' =
-      AnswersCommand (λ os. os) (commanded (signer s.link.keys) s.link c) s.link said s'.link s.store_view s'.store_view
+      AnswersCommand (λ os. os) (commanded (signer s.link.keys) s.link c) s.link c said s'.link s.store_view
+      s'.store_view
   Does s Connects said s' =
       Answered (λ os. os) (connected (signer s.link.keys) s.link) s.link said s'.link × (s'.store_view ≡ s.store_view)
   Does s Drops said s' = (s'.link ≡ drops s.link) × (s'.store_view ≡ s.store_view)

@@ -186,19 +186,12 @@ const A: Role = Role::Funder;
 
 const B: Role = Role::Fundee;
 
-// A pays, B is paid. The eight saves of either end; the record of before is left, or the new one.
-const PAYMENTS: [Told; 16] = [
+// A pays, B is paid. The six saves of either end, as an update alone saves nothing; the record of before is left, or
+// the new one.
+const PAYMENTS: [Told; 12] = [
     (
         A,
         0,
-        "sends add: 61 1 62 same, A reestablish, B reestablish, A channel_ready, \
-         B channel_ready, paid",
-        "sends add: 61 1 62 same, A reestablish, B reestablish, A channel_ready, \
-         B channel_ready, paid",
-    ),
-    (
-        A,
-        1,
         "sends sign: 61 1 62 same, A reestablish, B reestablish, A channel_ready, \
          B channel_ready, paid",
         "sends sign: 61 1 62 new, A reestablish, B reestablish, A channel_ready, A add, \
@@ -206,92 +199,70 @@ const PAYMENTS: [Told; 16] = [
     ),
     (
         A,
-        2,
+        1,
         "takes revoke: 61 1 62 same, A reestablish, B reestablish, B revoke, paid",
         "takes revoke: 61 1 62 new, A reestablish, B reestablish, paid",
     ),
     (
         A,
-        3,
+        2,
         "takes sign: 61 1 62 same, A reestablish, B reestablish, B sign, A revoke, paid",
         "takes sign: 61 1 62 new, A reestablish, B reestablish, A revoke, paid",
     ),
     (
         A,
-        4,
-        "takes fulfil: 61 1 62 same, A reestablish, B reestablish, B fulfil, B sign, \
-         A revoke, paid",
-        "takes fulfil: 61 1 62 same, A reestablish, B reestablish, B fulfil, B sign, \
-         A revoke, paid",
-    ),
-    (
-        A,
-        5,
+        3,
         "takes sign: 61 1 62 same, A reestablish, B reestablish, B fulfil, B sign, A revoke, \
          paid",
         "takes sign: 61 1 62 new, A reestablish, B reestablish, A revoke, paid",
     ),
     (
         A,
-        6,
+        4,
         "sends sign: 61 1 62 same, A reestablish, B reestablish, paid",
         "sends sign: 61 1 62 new, A reestablish, B reestablish, A sign, B revoke, paid",
     ),
     (
         A,
-        7,
+        5,
         "takes revoke: 61 1 62 same, A reestablish, B reestablish, B revoke, paid",
         "takes revoke: 61 1 62 new, A reestablish, B reestablish, paid",
     ),
     (
         B,
         0,
-        "takes add: 61 1 62 same, B reestablish, A reestablish, B channel_ready, \
-         A channel_ready, A add, A sign, B revoke, paid",
-        "takes add: 61 1 62 same, B reestablish, A reestablish, B channel_ready, \
-         A channel_ready, A add, A sign, B revoke, paid",
-    ),
-    (
-        B,
-        1,
         "takes sign: 61 1 62 same, B reestablish, A reestablish, B channel_ready, \
          A channel_ready, A add, A sign, B revoke, paid",
         "takes sign: 61 1 62 new, B reestablish, A reestablish, B revoke, paid",
     ),
     (
         B,
-        2,
+        1,
         "sends sign: 61 1 62 same, B reestablish, A reestablish, paid",
         "sends sign: 61 1 62 new, B reestablish, A reestablish, B sign, A revoke, paid",
     ),
     (
         B,
-        3,
+        2,
         "takes revoke: 61 1 62 same, B reestablish, A reestablish, A revoke, paid",
         "takes revoke: 61 1 62 new, B reestablish, A reestablish, paid",
     ),
     (
         B,
-        4,
-        "sends fulfil: 61 1 62 same, B reestablish, A reestablish, paid",
-        "sends fulfil: 61 1 62 same, B reestablish, A reestablish, paid",
-    ),
-    (
-        B,
-        5,
+        3,
         "sends sign: 61 1 62 same, B reestablish, A reestablish, paid",
         "sends sign: 61 1 62 new, B reestablish, A reestablish, B fulfil, B sign, A revoke, \
          paid",
     ),
     (
         B,
-        6,
+        4,
         "takes revoke: 61 1 62 same, B reestablish, A reestablish, A revoke, paid",
         "takes revoke: 61 1 62 new, B reestablish, A reestablish, paid",
     ),
     (
         B,
-        7,
+        5,
         "takes sign: 61 1 62 same, B reestablish, A reestablish, A sign, B revoke, paid",
         "takes sign: 61 1 62 new, B reestablish, A reestablish, B revoke, paid",
     ),

@@ -1,6 +1,7 @@
 -- What is answered of a link, as what it is then; and what that sends and tells.
-use Rattle.std.proofs.Common.{◌≡◌, ◌∙◌, refl, sym, ap, ℕ, List, Result, Ok, Err}
+use Rattle.std.proofs.Common.{◌≡◌, ◌∙◌, refl, sym, ap, ℕ, List, Option, Result, Ok, Err}
 use Rattle.ln_msgs.specs.declared.refusals.refusal.Refusal.{Refusal}
+use Rattle.ln_log.specs.declared.log.Side.{Side}
 use Rattle.ln_channel.specs.declared.output.Output.{Output}
 use Rattle.ln_channel.specs.declared.machine.Stage.{Stage}
 use Rattle.ln_channel.specs.declared.machine.Stage.TheVariants as stage
@@ -12,10 +13,10 @@ use Rattle.ln_world_channels.specs.declared.step.End.{End}
 use Rattle.ln_world_channels.specs.Lines.{lines_of}
 use Rattle.ln_world_channels.specs.Both.{Both, SimEnd, reaches, answers, left, as_saved, sent_by, answer_lines}
 
-pub said_so : {K V : Type 0} (outs : V → List Output) (said : Result Done Refusal) (l new : State K) (v : V)
-    (s t : StoreView) → HandsOut outs said l v new s t
+pub said_so : {K V : Type 0} (brings : List Output → Option Side) (outs : V → List Output) (said : Result Done Refusal)
+    (l new : State K) (v : V) (s t : StoreView) → HandsOut brings outs said l v new s t
     → as_saved said ≡ Ok (record { connection = new.connection; stage = new.stage; outputs = outs v })
-said_so outs (Ok d) l new v s t h =
+said_so brings outs (Ok d) l new v s t h =
     ap (λ (os : List Output). Ok (record {
       connection = d.connection;
       stage = based_stage d.stage;
@@ -23,13 +24,13 @@ said_so outs (Ok d) l new v s t h =
           os;
     })) (sym h.0)
     ∙ ap (λ (x : State _). Ok (record { connection = x.connection; stage = x.stage; outputs = outs v })) (sym h.1)
-said_so outs (Err r) l new v s t h = absurd h
+said_so brings outs (Err r) l new v s t h = absurd h
 
-pub left_so : {K V : Type 0} (outs : V → List Output) (after : Refusal → State K → State K)
-    (said : Result Done Refusal) (l new : State K) (v : V) (s t : StoreView) → HandsOut outs said l v new s t
-    → new ≡ left after said l
-left_so outs after (Ok d) l new v s t h = h.1
-left_so outs after (Err r) l new v s t h = absurd h
+pub left_so : {K V : Type 0} (brings : List Output → Option Side) (outs : V → List Output)
+    (after : Refusal → State K → State K) (said : Result Done Refusal) (l new : State K) (v : V) (s t : StoreView)
+    → HandsOut brings outs said l v new s t → new ≡ left after said l
+left_so brings outs after (Ok d) l new v s t h = h.1
+left_so brings outs after (Err r) l new v s t h = absurd h
 
 -- ---- as it is saved, it sends the same, and the same is told
 

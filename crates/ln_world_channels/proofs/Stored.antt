@@ -11,6 +11,7 @@ use Rattle.ln_msgs.specs.declared.messages.message.Message.{Message}
 use Rattle.ln_msgs.specs.declared.refusals.refusal.Refusal.{Refusal}
 use Rattle.ln_msgs.specs.declared.refusals.refusal.Refusal.TheVariants as refusal
 use Rattle.ln_keys.specs.Signer.{Signer}
+use Rattle.ln_log.specs.declared.log.Side.{Side}
 use Rattle.ln_channel.specs.declared.command.Command.{Command}
 use Rattle.ln_channel.specs.declared.config.Config.{Config}
 use Rattle.ln_channel.specs.declared.output.Output.{Output}
@@ -35,7 +36,8 @@ use Rattle.ln_link.specs.Calls as call
 use Rattle.ln_link.specs.Calls.{Call, Handle, Connect, DropConnection, Leads, Has, HasLink}
 use Rattle.ln_link.specs.Saving.{StoreView, FailsBy, SavesIf, SavesFailure, HandsOut, HaltsBehind}
 use Rattle.ln_link.specs.Saving.{HaltsRefused, AnswersMessage, AnswersCommand, AnswersOver, CannotBeStored, CannotTell}
-use Rattle.ln_link.specs.Saving.{stored_end, settled, fails_now, is_known, handled_beside}
+use Rattle.ln_link.specs.Saving.{stored_end, settled, fails_now, is_known, handled_beside, has_same_record}
+use Rattle.ln_link.specs.Saving.{is_update, sends_update, taken_alone, sent_alone}
 use Rattle.ln_link.proofs.Calls.{has_record}
 use Rattle.ln_link.proofs.Refusing.{has_halted}
 use Rattle.ln_link.proofs.Restarted.{comes_back, for_memory_alone}
@@ -188,22 +190,28 @@ module _ {K : Type 0} (keys : Signer) where
 
   -- ---- what is handed out
 
-  as_list : {V : Type 0} (outs : V → List Output) (said : Result Done Refusal) (l n : State K) (v : V) (s t : StoreView)
-      → HandsOut outs said l v n s t → HandsOut (λ x. x) said l (outs v) n s t
-  as_list outs (Ok d) l n v s t h = h
-  as_list outs (Err r) l n v s t h = h
+  as_list : {V : Type 0} (brings : List Output → Option Side) (outs : V → List Output) (said : Result Done Refusal)
+      (l n : State K) (v : V) (s t : StoreView) → HandsOut brings outs said l v n s t
+      → HandsOut brings (λ x. x) said l (outs v) n s t
+  as_list brings outs (Ok d) l n v s t h = h
+  as_list brings outs (Err r) l n v s t h = h
 
-  empty_behind : {V : Type 0} (outs : V → List Output) (said : Result Done Refusal) (l n : State K) (v : V)
-      (s t : StoreView) → HandsOut outs said l v n s t → t.records ≡ stored_end l.failure (saved_end n.stage) s.records
-  empty_behind outs (Ok d) l n v s t h =
-      ap (λ (x : StoreView). x.records) h.2.1
-      ∙ ap (λ (x : State K). stored_end l.failure (saved_end x.stage) s.records) (sym h.1)
-  empty_behind outs (Err r) l n v s t h = absurd h
+  -- it is saved, or nothing is
+  empty_behind : {V : Type 0} (brings : List Output → Option Side) (outs : V → List Output) (said : Result Done Refusal)
+      (l n : State K) (v : V) (s t : StoreView) → HandsOut brings outs said l v n s t
+      → (t.records ≡ s.records) ⊎ (t.records ≡ stored_end l.failure (saved_end n.stage) s.records)
+  empty_behind brings outs (Ok d) l n v s t h =
+      subst (λ (x : State K). (t.records ≡ s.records)
+      ⊎ (t.records ≡ stored_end l.failure (saved_end x.stage) s.records)) (sym h.1)
+      (behind_failure (not (has_same_record (brings d.outputs) d.stage)) l.failure (saved_end (settled d l).stage) s t
+      h.2)
+  empty_behind brings outs (Err r) l n v s t h = absurd h
 
-  works_so : {V : Type 0} (outs : V → List Output) (said : Result Done Refusal) (l n : State K) (v : V)
-      (s t : StoreView) → l.halted ≡ false → HandsOut outs said l v n s t → n.halted ≡ false
-  works_so outs (Ok d) l n v s t up h = ap (λ (x : State K). x.halted) h.1 ∙ up
-  works_so outs (Err r) l n v s t up h = absurd h
+  works_so : {V : Type 0} (brings : List Output → Option Side) (outs : V → List Output) (said : Result Done Refusal)
+      (l n : State K) (v : V) (s t : StoreView) → l.halted ≡ false → HandsOut brings outs said l v n s t
+      → n.halted ≡ false
+  works_so brings outs (Ok d) l n v s t up h = ap (λ (x : State K). x.halted) h.1 ∙ up
+  works_so brings outs (Err r) l n v s t up h = absurd h
 
   -- ---- a message over a store without another channel
 
@@ -214,40 +222,42 @@ module _ {K : Type 0} (keys : Signer) where
       (opened_unknown (l.halted || not (is_none l.failure)) l.stage m rs k.has_nothing_before)
 
   -- it is taken
-  pub record IsTaken {V : Type 0} (outs : V → List Output) (said : Result Done Refusal) (l n : State K) (v : V)
-      (s t : StoreView) : Type 0 where
-    pub handed : HandsOut outs said l v n s t
+  pub record IsTaken {V : Type 0} (brings : List Output → Option Side) (outs : V → List Output)
+      (said : Result Done Refusal) (l n : State K) (v : V) (s t : StoreView) : Type 0 where
+    pub handed : HandsOut brings outs said l v n s t
     pub kept : IsKept n t.records
 
   pub message_taken : {V : Type 0} (outs : V → List Output) (l n : State K) (m : Message) (v : V) (s t : StoreView)
       → l.halted ≡ false → KeepsChannel l.stage n.stage → AnswersOver outs keys l m (Ok v) n s t
-      → IsKept l s.records → IsTaken outs (handled keys l m) l n v s t
+      → IsKept l s.records → IsTaken (taken_alone (is_update m)) outs (handled keys l m) l n v s t
   message_taken outs l n m v s t up keeps h k =
       let said = handled_beside s.records keys l m in
-      let g : HandsOut outs (handled keys l m) l v n s t =
-      subst (λ r. HandsOut outs r l v n s t) (beside_so l m s.records k) h in
+      let brings : List Output → Option Side = taken_alone (is_update m) in
+      let g : HandsOut brings outs (handled keys l m) l v n s t =
+      subst (λ r. HandsOut brings outs r l v n s t) (beside_so l m s.records k) h in
       record {
         handed = g;
         kept = record {
-          has_the_record = has_behind (Handle m) l n s t (works_so outs said l n v s t up h) keeps
-              (Ok (outs v), as_list outs said l n v s t h) k;
+          has_the_record = has_behind (Handle m) l n s t (works_so brings outs said l n v s t up h) keeps
+              (Ok (outs v), as_list brings outs said l n v s t h) k;
           has_nothing_before = stays_empty l.failure l.stage n.stage s.records t.records keeps
-              (inr (empty_behind outs said l n v s t h)) k.has_nothing_before;
+              (empty_behind brings outs said l n v s t h) k.has_nothing_before;
         };
       }
 
   pub command_taken : {V : Type 0} (outs : V → List Output) (l n : State K) (c : Command) (v : V) (s t : StoreView)
-      → l.halted ≡ false → KeepsChannel l.stage n.stage → AnswersCommand outs (commanded keys l c) l (Ok v) n s t
-      → IsKept l s.records → IsTaken outs (commanded keys l c) l n v s t
+      → l.halted ≡ false → KeepsChannel l.stage n.stage → AnswersCommand outs (commanded keys l c) l c (Ok v) n s t
+      → IsKept l s.records → IsTaken (λ os. sent_alone (sends_update c)) outs (commanded keys l c) l n v s t
   command_taken outs l n c v s t up keeps h k =
       let said = commanded keys l c in
+      let brings : List Output → Option Side = λ os. sent_alone (sends_update c) in
       record {
         handed = h;
         kept = record {
-          has_the_record = has_behind (call.Command c) l n s t (works_so outs said l n v s t up h) keeps
-              (Ok (outs v), as_list outs said l n v s t h) k;
+          has_the_record = has_behind (call.Command c) l n s t (works_so brings outs said l n v s t up h) keeps
+              (Ok (outs v), as_list brings outs said l n v s t h) k;
           has_nothing_before = stays_empty l.failure l.stage n.stage s.records t.records keeps
-              (inr (empty_behind outs said l n v s t h)) k.has_nothing_before;
+              (empty_behind brings outs said l n v s t h) k.has_nothing_before;
         };
       }
 
@@ -270,11 +280,11 @@ module _ {K : Type 0} (keys : Signer) where
       (subst (λ (x : State K). KeepsChannel l.stage x.stage) is keeps)
       (behind_failure (fails_now e l) r.failure (saved_end r.stage) s t saves) k.has_nothing_before)
 
-  behind : (e : Refusal) (said : Result Done Refusal) (l n : State K) (s t : StoreView) → HaltsBehind e said l n s t
-      → n.halted ≡ true
-  behind e (Ok d) l n s t (inl h) = ap (λ (x : State K). x.halted) h.1
-  behind e (Ok d) l n s t (inr h) = ap (λ (x : State K). x.halted) h.0
-  behind e (Err r) l n s t h = absurd h
+  behind : (brings : List Output → Option Side) (e : Refusal) (said : Result Done Refusal) (l n : State K)
+      (s t : StoreView) → HaltsBehind brings e said l n s t → n.halted ≡ true
+  behind brings e (Ok d) l n s t (inl h) = ap (λ (x : State K). x.halted) h.1
+  behind brings e (Ok d) l n s t (inr h) = ap (λ (x : State K). x.halted) h.1.0
+  behind brings e (Err r) l n s t h = absurd h
 
   refusing : (e : Refusal) (said : Result Done Refusal) (l n : State K) (s t : StoreView) → HaltsRefused e said l n s t
       → n.halted ≡ true
@@ -292,7 +302,8 @@ module _ {K : Type 0} (keys : Signer) where
       (e : Refusal) (s t : StoreView) → n.halted ≡ false → KeepsChannel l.stage n.stage
       → AnswersMessage outs said l m (Err e) n s t → IsKept l s.records → IsSaidOf refused said l n e t
   refused_message outs said l n m e s t up keeps (inl h) k = still_works n (has_halted l n h.1) up
-  refused_message outs said l n m e s t up keeps (inr (inl h)) k = still_works n (behind e said l n s t h) up
+  refused_message outs said l n m e s t up keeps (inr (inl h)) k =
+      still_works n (behind (taken_alone (is_update m)) e said l n s t h) up
   refused_message outs said l n m e s t up keeps (inr (inr (inl h))) k =
       still_works n (refusing e said l n s t h) up
   refused_message outs said l n m e s t up keeps (inr (inr (inr h))) k =
@@ -315,12 +326,13 @@ module _ {K : Type 0} (keys : Signer) where
         };
       }
 
-  pub command_refused : {V : Type 0} (outs : V → List Output) (said : Result Done Refusal) (l n : State K)
-      (e : Refusal) (s t : StoreView) → n.halted ≡ false → AnswersCommand outs said l (Err e) n s t → IsKept l s.records
-      → IsRefused unchanged said l n e t
-  command_refused outs said l n e s t up (inl h) k = still_works n (has_halted l n h.1) up
-  command_refused outs said l n e s t up (inr (inl h)) k = still_works n (behind e said l n s t h) up
-  command_refused outs said l n e s t up (inr (inr h)) k = record {
+  pub command_refused : {V : Type 0} (outs : V → List Output) (said : Result Done Refusal) (l n : State K) (c : Command)
+      (e : Refusal) (s t : StoreView) → n.halted ≡ false → AnswersCommand outs said l c (Err e) n s t
+      → IsKept l s.records → IsRefused unchanged said l n e t
+  command_refused outs said l n c e s t up (inl h) k = still_works n (has_halted l n h.1) up
+  command_refused outs said l n c e s t up (inr (inl h)) k =
+      still_works n (behind (λ os. sent_alone (sends_update c)) e said l n s t h) up
+  command_refused outs said l n c e s t up (inr (inr h)) k = record {
     said_so = h.0;
     left_so = h.1;
     kept = subst (λ (x : State K). IsKept x t.records) (sym h.1)
@@ -345,13 +357,13 @@ module _ {K : Type 0} (keys : Signer) where
       parts keys line false (Some r) s = refl
       parts keys line false None s = failing keys line s (fails e)
 
-  behind_lacks : (after : Refusal → State K → State K) (e : Refusal) (said : Result Done Refusal) (l n : State K)
-      (s t : StoreView) → s.failed ≡ 0 → t.failed ≡ 0 → HaltsBehind e said l n s t
-      → ByRecord e (LinkLacks (left after said l))
-  behind_lacks after e (Ok d) l n s t a b (inl h) = inl h.0
-  behind_lacks after e (Ok d) l n s t a b (inr h) =
-      by_save e l.failure (saved_end (settled d l).stage) s.failed t.failed a b h.1.cause
-  behind_lacks after e (Err r) l n s t a b h = absurd h
+  behind_lacks : (brings : List Output → Option Side) (after : Refusal → State K → State K) (e : Refusal)
+      (said : Result Done Refusal) (l n : State K) (s t : StoreView) → s.failed ≡ 0 → t.failed ≡ 0
+      → HaltsBehind brings e said l n s t → ByRecord e (LinkLacks (left after said l))
+  behind_lacks brings after e (Ok d) l n s t a b (inl h) = inl h.0
+  behind_lacks brings after e (Ok d) l n s t a b (inr h) =
+      by_save e l.failure (saved_end (settled d l).stage) s.failed t.failed a b h.1.1.cause
+  behind_lacks brings after e (Err r) l n s t a b h = absurd h
 
   refusing_lacks : (e : Refusal) (said : Result Done Refusal) (l n : State K) (s t : StoreView) → s.failed ≡ 0
       → t.failed ≡ 0 → HaltsRefused e said l n s t → ByRecord e (LinkLacks (left refused said l))
@@ -363,7 +375,8 @@ module _ {K : Type 0} (keys : Signer) where
       (e : Refusal) (s t : StoreView) → l.halted ≡ false → n.halted ≡ true → s.failed ≡ 0 → t.failed ≡ 0
       → AnswersMessage outs said l m (Err e) n s t → ByRecord e (LinkLacks (left refused said l))
   message_lacks outs said l n m e s t up down a b (inl h) = inl h.0.0
-  message_lacks outs said l n m e s t up down a b (inr (inl h)) = behind_lacks refused e said l n s t a b h
+  message_lacks outs said l n m e s t up down a b (inr (inl h)) =
+      behind_lacks (taken_alone (is_update m)) refused e said l n s t a b h
   message_lacks outs said l n m e s t up down a b (inr (inr (inl h))) = refusing_lacks e said l n s t a b h
   message_lacks outs said l n m e s t up down a b (inr (inr (inr h))) =
       still_works n down (ap (λ (x : State K). x.halted) h.1 ∙ refused_halts e l ∙ up)
@@ -378,12 +391,13 @@ module _ {K : Type 0} (keys : Signer) where
       message_lacks outs (handled keys l m) l n m e s t up down a b
       (subst (λ r. AnswersMessage outs r l m (Err e) n s t) (beside_so l m s.records k) h)
 
-  pub command_halted : {V : Type 0} (outs : V → List Output) (said : Result Done Refusal) (l n : State K)
+  pub command_halted : {V : Type 0} (outs : V → List Output) (said : Result Done Refusal) (l n : State K) (c : Command)
       (e : Refusal) (s t : StoreView) → l.halted ≡ false → n.halted ≡ true → s.failed ≡ 0 → t.failed ≡ 0
-      → AnswersCommand outs said l (Err e) n s t → ByRecord e (LinkLacks (left unchanged said l))
-  command_halted outs said l n e s t up down a b (inl h) = inl h.0.0
-  command_halted outs said l n e s t up down a b (inr (inl h)) = behind_lacks unchanged e said l n s t a b h
-  command_halted outs said l n e s t up down a b (inr (inr h)) =
+      → AnswersCommand outs said l c (Err e) n s t → ByRecord e (LinkLacks (left unchanged said l))
+  command_halted outs said l n c e s t up down a b (inl h) = inl h.0.0
+  command_halted outs said l n c e s t up down a b (inr (inl h)) =
+      behind_lacks (λ os. sent_alone (sends_update c)) unchanged e said l n s t a b h
+  command_halted outs said l n c e s t up down a b (inr (inr h)) =
       still_works n down (ap (λ (x : State K). x.halted) h.1 ∙ up)
 
   -- ---- a connection that comes

@@ -1,6 +1,6 @@
-use Rattle.std.proofs.Common.{◌∙◌, inl, inr}
+use Rattle.std.proofs.Common.{◌∙◌, ap, inl, inr}
 use Rattle.ln_channel.specs.Step.{commanded}
-use Rattle.ln_link.specs.Saving.{StoreView}
+use Rattle.ln_link.specs.Saving.{StoreView, sends_update, sent_alone}
 use Rattle.ln_link.proofs.Saved.{handed_so, halted_so}
 use Rattle.ln_link.proofs.link.Link.command.Goals as goal
 
@@ -14,9 +14,10 @@ returns-in-Ok-finish-clause-answers g c = λ l s.
       records = g.S.RecordStore.records c.finish.new.store;
       failed = g.S.RecordStore.failed c.finish.new.store;
     } in
-    handed_so (λ v. v.items) (commanded (g.K.ChannelKeys.signer l.keys) l c.args.command) l c.command.new.self
-    c.finish.new.self c.in-Ok.outputs before behind (c.in-Ok.ensures.answers l (c.self.view_is ∙ s))
-    c.in-Ok-finish.ensures.settles
+    handed_so (λ os. sent_alone (sends_update c.args.command)) (λ v. v.items)
+    (commanded (g.K.ChannelKeys.signer l.keys) l c.args.command) l c.command.new.self c.finish.new.self
+    c.in-Ok.outputs c.sent_alone-brought.result before behind (c.in-Ok.ensures.answers l (c.self.view_is ∙ s))
+    (c.sent_alone-brought.ensures ∙ ap sent_alone c.sends_update.ensures) c.in-Ok-finish.ensures.settles
 
 pub returns-in-Err-finish-clause-answers : goal.returns-in-Err-finish-clause-answers
 returns-in-Err-finish-clause-answers g c = λ l s.
@@ -28,6 +29,8 @@ returns-in-Err-finish-clause-answers g c = λ l s.
       records = g.S.RecordStore.records c.finish.new.store;
       failed = g.S.RecordStore.failed c.finish.new.store;
     } in
-    inr (inl (halted_so (λ v. v.items) (commanded (g.K.ChannelKeys.signer l.keys) l c.args.command) l
-    c.command.new.self c.finish.new.self c.in-Ok.outputs c.in-Err-finish.refusal before behind
-    (c.in-Ok.ensures.answers l (c.self.view_is ∙ s)) c.in-Err-finish.ensures.settles))
+    inr (inl (halted_so (λ os. sent_alone (sends_update c.args.command)) (λ v. v.items)
+    (commanded (g.K.ChannelKeys.signer l.keys) l c.args.command) l c.command.new.self c.finish.new.self
+    c.in-Ok.outputs c.sent_alone-brought.result c.in-Err-finish.refusal before behind
+    (c.in-Ok.ensures.answers l (c.self.view_is ∙ s))
+    (c.sent_alone-brought.ensures ∙ ap sent_alone c.sends_update.ensures) c.in-Err-finish.ensures.settles))

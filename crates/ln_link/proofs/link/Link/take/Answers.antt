@@ -1,7 +1,7 @@
-use Rattle.std.proofs.Common.{◌∙◌, refl, inl, inr, List}
+use Rattle.std.proofs.Common.{◌≡◌, ◌∙◌, refl, ap, inl, inr, List}
 use Rattle.ln_channel.specs.declared.output.Output.{Output}
 use Rattle.ln_channel.specs.Step.{handled}
-use Rattle.ln_link.specs.Saving.{StoreView}
+use Rattle.ln_link.specs.Saving.{StoreView, is_update, taken_alone}
 use Rattle.ln_link.proofs.Saved.{handed_so, halted_so}
 use Rattle.ln_link.proofs.Refusing.{after_refusal_of}
 use Rattle.ln_link.proofs.link.Link.take.Goals as goal
@@ -32,9 +32,11 @@ returns-in-Ok-finish-clause-answers g c = λ l s.
       records = g.S.RecordStore.records c.finish.new.store;
       failed = g.S.RecordStore.failed c.finish.new.store;
     } in
-    handed_so (λ v. v.items) (handled (g.K.ChannelKeys.signer l.keys) l c.args.message) l c.handle.new.self
-    c.finish.new.self c.in-Ok.outputs before behind (c.in-Ok.ensures.answers l (c.self.view_is ∙ s))
-    c.in-Ok-finish.ensures.settles
+    handed_so (taken_alone (is_update c.args.message)) (λ v. v.items)
+    (handled (g.K.ChannelKeys.signer l.keys) l c.args.message) l c.handle.new.self c.finish.new.self c.in-Ok.outputs
+    c.taken_alone-brought.result before behind (c.in-Ok.ensures.answers l (c.self.view_is ∙ s))
+    (c.taken_alone-brought.ensures ∙ ap (λ b. taken_alone b c.as_slice.result.now) c.is_update-update.ensures
+    ∙ ap (λ os. taken_alone (is_update c.args.message) os) c.as_slice.ensures.value) c.in-Ok-finish.ensures.settles
 
 pub returns-in-Err-finish-clause-answers : goal.returns-in-Err-finish-clause-answers
 returns-in-Err-finish-clause-answers g c = λ l s.
@@ -46,6 +48,10 @@ returns-in-Err-finish-clause-answers g c = λ l s.
       records = g.S.RecordStore.records c.finish.new.store;
       failed = g.S.RecordStore.failed c.finish.new.store;
     } in
-    inr (inl (halted_so (λ v. v.items) (handled (g.K.ChannelKeys.signer l.keys) l c.args.message) l
-    c.handle.new.self c.finish.new.self c.in-Ok.outputs c.in-Err-finish.refusal before behind
-    (c.in-Ok.ensures.answers l (c.self.view_is ∙ s)) c.in-Err-finish.ensures.settles))
+    inr (inl (halted_so (taken_alone (is_update c.args.message)) (λ v. v.items)
+    (handled (g.K.ChannelKeys.signer l.keys) l c.args.message) l c.handle.new.self c.finish.new.self c.in-Ok.outputs
+    c.taken_alone-brought.result c.in-Err-finish.refusal before behind
+    (c.in-Ok.ensures.answers l (c.self.view_is ∙ s))
+    (c.taken_alone-brought.ensures ∙ ap (λ b. taken_alone b c.as_slice.result.now) c.is_update-update.ensures
+    ∙ ap (λ os. taken_alone (is_update c.args.message) os) c.as_slice.ensures.value)
+    c.in-Err-finish.ensures.settles))

@@ -1,6 +1,7 @@
 use Rattle.std.proofs.Common.{◌≡◌, ◌∙◌, refl, sym, ap, subst, Ok, Err, Vec, Global}
 use Rattle.ln_channel.specs.State.{State}
 use Rattle.ln_channel.specs.Step.{commanded}
+use Rattle.ln_link.specs.Saving.{sends_update, sent_alone}
 use Rattle.ln_world_channels.specs.Both.{left, unchanged, as_saved}
 use Rattle.ln_world_channels.specs.Failing.{ByRecord, LinkLacks}
 use Rattle.ln_world_channels.proofs.Answered.{said_so, left_so}
@@ -22,7 +23,7 @@ returns-then-has_halted-2-clause-fails g c =
     (commanded (g.K.ChannelKeys.signer x.keys) x c.args.command) x))) c.self.view_is
     (command_halted (g.K.ChannelKeys.signer c.self.inside.link.keys) {V = Vec Output Global} (λ v. v.items)
     (commanded (g.K.ChannelKeys.signer c.self.inside.link.keys) c.self.inside.link c.args.command) c.self.inside.link
-    c.command.new.self
+    c.command.new.self c.args.command
     c.in-Err.why (record { records = c.self.inside.store; failed = 0 })
     (record { records = c.command.new.store; failed = 0 }) (sym c.has_halted.ensures ∙ c.if-has_halted.false)
     (sym c.has_halted-in-Err.ensures ∙ c.if-has_halted-2.true) refl refl (c.in-Err.ensures.answers c.self.inside.link
@@ -32,7 +33,7 @@ pub invariant_of-self-else-has_halted-2 : goal.invariant_of-self-else-has_halted
 invariant_of-self-else-has_halted-2 g c =
     (command_refused (g.K.ChannelKeys.signer c.self.inside.link.keys) {V = Vec Output Global} (λ v. v.items)
     (commanded (g.K.ChannelKeys.signer c.self.inside.link.keys) c.self.inside.link c.args.command) c.self.inside.link
-    c.command.new.self
+    c.command.new.self c.args.command
     c.in-Err.why (record { records = c.self.inside.store; failed = 0 })
     (record { records = c.command.new.store; failed = 0 }) (sym c.has_halted-in-Err.ensures ∙ c.if-has_halted-2.false)
     (c.in-Err.ensures.answers c.self.inside.link refl) c.self.invariant).kept
@@ -44,7 +45,8 @@ returns-in-Ok-clause-said g c =
       stage = c.command.new.self.stage;
       outputs = c.in-Ok.outputs.items;
     })) c.self.view_is
-    (said_so (λ v. v.items) (commanded (g.K.ChannelKeys.signer c.self.inside.link.keys) c.self.inside.link
+    (said_so (λ os. sent_alone (sends_update c.args.command)) (λ v. v.items)
+    (commanded (g.K.ChannelKeys.signer c.self.inside.link.keys) c.self.inside.link
     c.args.command)
     c.self.inside.link c.command.new.self c.in-Ok.outputs (record { records = c.self.inside.store; failed = 0 })
     (record { records = c.command.new.store; failed = 0 })
@@ -59,7 +61,8 @@ returns-in-Ok-clause-link g c =
     subst (λ (x : State _). c.command.new.self ≡ left unchanged (commanded (g.K.ChannelKeys.signer x.keys) x
     c.args.command) x)
     c.self.view_is
-    (left_so (λ v. v.items) unchanged (commanded (g.K.ChannelKeys.signer c.self.inside.link.keys) c.self.inside.link
+    (left_so (λ os. sent_alone (sends_update c.args.command)) (λ v. v.items) unchanged
+    (commanded (g.K.ChannelKeys.signer c.self.inside.link.keys) c.self.inside.link
     c.args.command)
     c.self.inside.link c.command.new.self c.in-Ok.outputs (record { records = c.self.inside.store; failed = 0 })
     (record { records = c.command.new.store; failed = 0 })
@@ -76,7 +79,7 @@ returns-else-has_halted-2-clause-said g c =
     (ap as_saved (command_refused (g.K.ChannelKeys.signer c.self.inside.link.keys) {V = Vec Output Global}
     (λ v. v.items) (commanded (g.K.ChannelKeys.signer c.self.inside.link.keys) c.self.inside.link c.args.command)
     c.self.inside.link
-    c.command.new.self
+    c.command.new.self c.args.command
     c.in-Err.why (record { records = c.self.inside.store; failed = 0 })
     (record { records = c.command.new.store; failed = 0 }) (sym c.has_halted-in-Err.ensures ∙ c.if-has_halted-2.false)
     (c.in-Err.ensures.answers c.self.inside.link refl) c.self.invariant).said_so)
@@ -85,7 +88,7 @@ pub returns-else-has_halted-2-clause-link : goal.returns-else-has_halted-2-claus
 returns-else-has_halted-2-clause-link g c =
     let x = command_refused (g.K.ChannelKeys.signer c.self.inside.link.keys) {V = Vec Output Global} (λ v. v.items)
     (commanded (g.K.ChannelKeys.signer c.self.inside.link.keys) c.self.inside.link c.args.command) c.self.inside.link
-    c.command.new.self
+    c.command.new.self c.args.command
     c.in-Err.why (record { records = c.self.inside.store; failed = 0 })
     (record { records = c.command.new.store; failed = 0 }) (sym c.has_halted-in-Err.ensures ∙ c.if-has_halted-2.false)
     (c.in-Err.ensures.answers c.self.inside.link refl) c.self.invariant in

@@ -1,6 +1,7 @@
 use Rattle.std.proofs.Common.{◌≡◌, ◌∙◌, refl, sym, ap, subst, Ok, Err, Vec, Global}
 use Rattle.ln_channel.specs.State.{State, refused}
 use Rattle.ln_channel.specs.Step.{handled}
+use Rattle.ln_link.specs.Saving.{is_update, taken_alone}
 use Rattle.ln_world_channels.specs.Both.{left, as_saved}
 use Rattle.ln_world_channels.specs.Failing.{ByRecord, LinkLacks}
 use Rattle.ln_world_channels.proofs.Answered.{said_so, left_so}
@@ -42,7 +43,8 @@ returns-in-Ok-clause-said g c =
       stage = c.handle.new.self.stage;
       outputs = c.in-Ok.outputs.items;
     })) c.self.view_is
-    (said_so (λ v. v.items) (handled (g.K.ChannelKeys.signer c.self.inside.link.keys) c.self.inside.link
+    (said_so (taken_alone (is_update c.args.message)) (λ v. v.items)
+    (handled (g.K.ChannelKeys.signer c.self.inside.link.keys) c.self.inside.link
     c.args.message)
     c.self.inside.link c.handle.new.self c.in-Ok.outputs (record { records = c.self.inside.store; failed = 0 })
     (record { records = c.handle.new.store; failed = 0 })
@@ -57,7 +59,8 @@ returns-in-Ok-clause-link g c =
     subst (λ (x : State _). c.handle.new.self ≡ left refused (handled (g.K.ChannelKeys.signer x.keys) x
     c.args.message) x)
     c.self.view_is
-    (left_so (λ v. v.items) refused (handled (g.K.ChannelKeys.signer c.self.inside.link.keys) c.self.inside.link
+    (left_so (taken_alone (is_update c.args.message)) (λ v. v.items) refused
+    (handled (g.K.ChannelKeys.signer c.self.inside.link.keys) c.self.inside.link
     c.args.message)
     c.self.inside.link c.handle.new.self c.in-Ok.outputs (record { records = c.self.inside.store; failed = 0 })
     (record { records = c.handle.new.store; failed = 0 })
