@@ -446,7 +446,8 @@ impl Book {
         ensures fails_for_memory_alone { IfErr result (λ r. r ≡ Refusal.Memory) }
     {
         let htlcs = rebuilt_htlcs(alloc, snapshots)?;
-        self.tables.begin(alloc, htlcs);
+        let places = Vec::with_capacity(alloc, htlcs.len())?;
+        self.tables.begin(alloc, htlcs, places);
         self.history = Past::begun(&self.tables);
         Ok(())
     }

@@ -361,22 +361,38 @@ fn command_by<O: Onion>(
     }
 }
 
+// What an HTLC is due in this channel, with its command. Error: 60 alone.
+#[inline(always)]
+fn command_in<O: Onion>(
+    alloc: Global,
+    onion: &O,
+    channel: &ChannelId,
+    htlc: &Htlc,
+) -> Result<Option<(Out, Box<Command>)>, Refusal>
+    ensures command { IfOk result (λ c. option_map unboxed c ≡ command_by (services_of O.opened O.wrapped onion.now)
+        htlc.now (due channel.now htlc.now)) }
+    ensures fails_for_memory_alone { IfErr result (λ r. r ≡ Refusal.Memory) }
+{
+    match due(channel, htlc) {
+        None => Ok(None),
+        Some(due_command) => command_by(alloc, onion, htlc, due_command.out(htlc.key)),
+    }
+}
+
 // The command in this channel of the first HTLC that has one. Error: 60 alone.
 fn first_due<O: Onion>(
     alloc: Global,
     onion: &O,
     channel: &ChannelId,
-    htlcs: &[Htlc],
+    tables: &Tables,
 ) -> Result<Option<(Out, Box<Command>)>, Refusal>
     ensures command { IfOk result (λ c. option_map unboxed c ≡ first_due (services_of O.opened O.wrapped onion.now)
-        channel.now htlcs.now) }
+        channel.now tables.now.htlcs) }
     ensures fails_for_memory_alone { IfErr result (λ r. r ≡ Refusal.Memory) }
 {
-    for htlc in htlcs {
-        let Some(due_command) = due(channel, htlc) else {
-            continue;
-        };
-        if let Some(found) = command_by(alloc, onion, htlc, due_command.out(htlc.key))? {
+    for index in 0..tables.due_count() {
+        let htlc = tables.due_at(index);
+        if let Some(found) = command_in(alloc, onion, channel, htlc)? {
             return Ok(Some(found));
         }
     }
@@ -412,14 +428,14 @@ fn first_of<O: Onion>(
     onion: &O,
     channel: &ChannelId,
     queued: Option<&Queued>,
-    htlcs: &[Htlc],
+    tables: &Tables,
 ) -> Result<Option<(Out, Box<Command>)>, Refusal>
     ensures command { IfOk result (λ c. option_map unboxed c ≡ first_of (services_of O.opened O.wrapped onion.now)
-        channel.now (option_copied queued.entry) htlcs.now) }
+        channel.now (option_copied queued.entry) tables.now.htlcs) }
     ensures fails_for_memory_alone { IfErr result (λ r. r ≡ Refusal.Memory) }
 {
     let Some(queued) = queued else {
-        return first_due(alloc, onion, channel, htlcs);
+        return first_due(alloc, onion, channel, tables);
     };
     Ok(Some(queued_command(alloc, queued)?))
 }
@@ -439,7 +455,7 @@ pub(crate) fn first_command<O: Onion>(
         PendingCommand::InFlight(_) | PendingCommand::Unknown(_) => Ok(None),
         PendingCommand::Idle => {
             let queued = first_queued(channel, tables.queue());
-            first_of(alloc, onion, channel, queued, tables.htlcs())
+            first_of(alloc, onion, channel, queued, tables)
         }
     }
 }

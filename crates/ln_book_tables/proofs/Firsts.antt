@@ -1,12 +1,14 @@
 -- The first one of a list that passes a test, by its place.
-use Rattle.std.proofs.Common.{◌≡◌, ℕ, ◌<◌, List, [], ◌∷◌, zero, suc, length, get_or, set, refl, sym, ap, ◌∙◌}
+use Rattle.std.proofs.Common.{◌≡◌, ℕ, ◌<◌, List, [], ◌∷◌, zero, suc, ◌++◌, length, get_or, set, refl, sym, ap, ◌∙◌}
 use Rattle.std.proofs.Common.{arith, Bool, true, false, cond, Some, None, inl, inr}
 use Rattle.std.proofs.lemmas.Bool.Decides.{leb_tells}
 use Rattle.std.proofs.lemmas.List.Sums.{fails_before_first}
 use Rattle.std.proofs.lemmas.List.Quantifiers.{position-Some}
 use Rattle.std.specs.List.{list_any, position, position_or_len, find}
-use Rattle.std.specs.Prelude.{not, ◌&&◌, ◌||◌, remove}
+use Rattle.std.specs.Prelude.{not, ◌&&◌, ◌||◌, remove, nat_lt}
+use Rattle.std.specs.List.{insert}
 use Rattle.ln_book_tables.specs.Replay.{changed_first, left_out, without_first}
+use Rattle.ln_book_tables.specs.Places.{with_place}
 
 abbrev Fails : {A : Type 0} → (A → Bool) → List A → Type 0
 Fails {A} p xs = (k : ℕ) (d : A) → k < length xs → p (get_or xs k d) ≡ false
@@ -102,3 +104,25 @@ found_at p xs i d e = let h = position-Some p xs i d e in there_at p xs i d h.0 
 pub removed_at : {A : Type 0} (p : A → Bool) (xs : List A) (i : ℕ) (d : A) → position p xs ≡ Some i
     → remove xs i ≡ without_first p xs
 removed_at p xs i d e = let h = position-Some p xs i d e in gone_at p xs i d h.0 h.1 h.2
+
+-- ---- a place among others
+
+placed_last : (n : ℕ) (ps : List ℕ) → Fails (nat_lt n) ps → ps ++ n ∷ [] ≡ with_place n ps
+placed_last n [] out = refl
+placed_last n (p ∷ ps) out = ap (λ qs. p ∷ qs) (placed_last n ps (λ k d lt. out (suc k) d (omega (arith, lt))))
+    ∙ sym (ap (λ b. cond b (n ∷ p ∷ ps) (p ∷ with_place n ps)) (out zero p (omega arith)))
+
+placed_there : (n : ℕ) (ps : List ℕ) (i d : ℕ) → i < length ps → nat_lt n (get_or ps i d) ≡ true
+    → ((k : ℕ) → k < i → nat_lt n (get_or ps k d) ≡ false) → insert ps i n ≡ with_place n ps
+placed_there n [] i d lt is out = absurd (omega (arith, lt))
+placed_there n (p ∷ ps) zero d lt is out = sym (ap (λ b. cond b (n ∷ p ∷ ps) (p ∷ with_place n ps)) is)
+placed_there n (p ∷ ps) (suc i) d lt is out =
+    ap (λ qs. p ∷ qs) (placed_there n ps i d (omega (arith, lt)) is (λ k l. out (suc k) (omega (arith, l))))
+    ∙ sym (ap (λ b. cond b (n ∷ p ∷ ps) (p ∷ with_place n ps)) (out zero (omega arith)))
+
+-- behind all others, or before the first that is behind it
+pub placed_none : (n : ℕ) (ps : List ℕ) → position (nat_lt n) ps ≡ None → ps ++ n ∷ [] ≡ with_place n ps
+placed_none n ps e = placed_last n ps (all_fail (nat_lt n) ps e)
+
+pub placed_at : (n : ℕ) (ps : List ℕ) (i : ℕ) → position (nat_lt n) ps ≡ Some i → insert ps i n ≡ with_place n ps
+placed_at n ps i e = let h = position-Some (nat_lt n) ps i 0 e in placed_there n ps i 0 h.0 h.1 h.2

@@ -2,11 +2,14 @@
 //! "Forwarding HTLCs").
 #![tactic(auto)]
 
+mod due;
 mod entry;
 mod held;
 mod htlc;
+mod indexed;
 mod lists;
 mod lost;
+mod places;
 mod tables;
 
 pub use entry::{

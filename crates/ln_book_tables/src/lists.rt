@@ -3,13 +3,17 @@
 ghost use Rattle.std.specs.Prelude.{◌≡◌, ◌≤◌, if◌then◌else◌};
 ghost use Rattle.std.specs.Prelude.{option_copied};
 ghost use Rattle.std.specs.List.{position, list_any, find};
+ghost use Rattle.std.specs.Prelude.{length};
 ghost use Rattle.std.specs.Vec.{vec_capacity, vec_len};
 ghost use Rattle.ln_book_tables.specs.Replay.{changed_first, left_out, without_first, is_htlc, is_queued, is_decided};
-ghost use Rattle.ln_book_tables.specs.Replay.{is_held_in, is_resumed, with_mark};
+ghost use Rattle.ln_book_tables.specs.Replay.{is_held_in, is_over, is_resumed};
 ghost use Rattle.ln_book_tables.specs.Lists.{picks, changed_by};
+ghost use Rattle.ln_book_tables.specs.Due.{due_places};
 
+use crate::due::index_all;
 use crate::entry::Queued;
 use crate::htlc::{Htlc, IncomingLeg, Key, OutgoingLeg};
+use crate::places::put_place;
 use ln_log::{ChannelId, Mark};
 
 /// Which HTLC is meant.
@@ -156,7 +160,7 @@ impl Htlc {
 
 // The place of the first HTLC that is meant. One search for each kind of test, so that none asks for the kind again at
 // each HTLC.
-fn index_of(htlcs: &[Htlc], which: &Which) -> Option<usize>
+pub(crate) fn index_of(htlcs: &[Htlc], which: &Which) -> Option<usize>
     ensures { result ≡ position (picks which.now) htlcs.now }
 {
     let mut all = htlcs.iter();
@@ -172,32 +176,33 @@ fn index_of(htlcs: &[Htlc], which: &Which) -> Option<usize>
     }
 }
 
-/// Changes the first HTLC that is meant.
-pub(crate) fn change_first(htlcs: &mut Vec<Htlc>, which: &Which, change: Change)
-    ensures { htlcs.new.items ≡ changed_first (picks which.now) (changed_by change) htlcs.old.items }
+/// Changes the first HTLC that is meant, and what the index says of it.
+pub(crate) fn change_first(
+    htlcs: &mut Vec<Htlc>,
+    places: &mut Vec<usize>,
+    which: &Which,
+    change: Change,
+)
+    requires indexed { places.old.items ≡ due_places htlcs.old.items }
+    requires room { length htlcs.old.items ≤ vec_capacity places.old }
+    ensures changed { htlcs.new.items ≡ changed_first (picks which.now) (changed_by change) htlcs.old.items }
+    ensures indexed { places.new.items ≡ due_places htlcs.new.items }
+    ensures room { length htlcs.new.items ≤ vec_capacity places.new }
 {
     match index_of(htlcs.as_slice(), which) {
         None => drop(change),
         Some(place) => {
             let htlc = &mut htlcs[place];
+            let was_due = htlc.is_due();
             htlc.change(change);
+            let is_due = htlc.is_due();
+            put_place(places, place, was_due, is_due);
         }
     }
 }
 
 /// Leaves out the HTLCs that are meant.
-pub(crate) fn leave_out(htlcs: &mut Vec<Htlc>, which: &Which)
-    ensures left { htlcs.new.items ≡ left_out (picks which.now) htlcs.old.items }
-    ensures room { (vec_capacity htlcs.new ≡ vec_capacity htlcs.old) × (vec_len htlcs.new ≤ vec_len htlcs.old) }
-{
-    match index_of(htlcs.as_slice(), which) {
-        None => {}
-        Some(_) => retain_others(htlcs, which),
-    }
-}
-
-// The others stay.
-fn retain_others(htlcs: &mut Vec<Htlc>, which: &Which)
+pub(crate) fn retain_others(htlcs: &mut Vec<Htlc>, which: &Which)
     ensures left { htlcs.new.items ≡ left_out (picks which.now) htlcs.old.items }
     ensures room { (vec_capacity htlcs.new ≡ vec_capacity htlcs.old) × (vec_len htlcs.new ≤ vec_len htlcs.old) }
 {
@@ -269,20 +274,23 @@ pub(crate) fn unresume(queue: &mut Vec<Queued>, channel: &ChannelId, event: u64)
     }
 }
 
-/// The HTLC that is held by the number of this event gets this mark, and those about which nothing is left to be done
-/// go.
-pub(crate) fn put_mark(htlcs: &mut Vec<Htlc>, channel: &ChannelId, event: u64, mark: Mark)
-    ensures { htlcs.new.items ≡ with_mark channel.now event mark htlcs.old.items }
+/// Leaves out those about which nothing is left to be done.
+pub(crate) fn leave_out_over(htlcs: &mut Vec<Htlc>)
+    ensures left { htlcs.new.items ≡ left_out is_over htlcs.old.items }
+    ensures room { vec_len htlcs.new ≤ vec_len htlcs.old }
 {
-    change_first(htlcs, &Which::Held(*channel, event), Change::Mark(mark));
     htlcs.retain(|htlc| !htlc.is_over());
 }
 
-/// Leaves out the HTLC of this key, unless it is decided; says whether it is.
-pub(crate) fn leave_out_undecided(htlcs: &mut Vec<Htlc>, key: &Key) -> bool
+/// Leaves out the HTLC of this key, unless it is decided, with what the index says of it; says whether it is.
+pub(crate) fn leave_out_undecided(htlcs: &mut Vec<Htlc>, places: &mut Vec<usize>, key: &Key) -> bool
+    requires indexed { places.old.items ≡ due_places htlcs.old.items }
+    requires room { length htlcs.old.items ≤ vec_capacity places.old }
     ensures told { result ≡ list_any (is_decided key.now) htlcs.old.items }
     ensures left { htlcs.new.items ≡ if result then htlcs.old.items else left_out (is_htlc key.now) htlcs.old.items }
     ensures room { (vec_capacity htlcs.new ≡ vec_capacity htlcs.old) × (vec_len htlcs.new ≤ vec_len htlcs.old) }
+    ensures indexed { places.new.items ≡ due_places htlcs.new.items }
+    ensures same_room { vec_capacity places.new ≡ vec_capacity places.old }
 {
     let which = Which::Htlc(*key);
     match index_of(htlcs.as_slice(), &which) {
@@ -292,6 +300,7 @@ pub(crate) fn leave_out_undecided(htlcs: &mut Vec<Htlc>, key: &Key) -> bool
                 return true;
             }
             retain_others(htlcs, &which);
+            index_all(htlcs.as_slice(), places);
             false
         }
     }

@@ -5,11 +5,8 @@ use crate::entry::{
 };
 use crate::held::{HeldHtlc, held_among};
 use crate::htlc::{Htlc, IncomingLeg, Key, OutgoingLeg};
-use crate::lists::{
-    Change, Which, change_first, held_in, is_any_resumed, leave_out, leave_out_undecided, put_mark,
-    unqueue, unresume,
-};
-use crate::lost::put_back_all;
+use crate::indexed::IndexedHtlcs;
+use crate::lists::{Change, Which, held_in, is_any_resumed, unqueue, unresume};
 use indexmap::IndexMap;
 use ln_hooks::How;
 use ln_keys::sha256_32;
@@ -26,7 +23,7 @@ pub struct Tables {
     height: u32,
     expected: IndexMap<[u8; 32], Invoice>,
     queue: Vec<Queued>,
-    htlcs: Vec<Htlc>,
+    htlcs: IndexedHtlcs,
     pending_commands: IndexMap<ChannelId, PendingCommand>,
 }
 
@@ -41,7 +38,7 @@ impl Model for Tables {
       height = t.height;
       expected = t.expected.entries;
       queue = t.queue.items;
-      htlcs = t.htlcs.items;
+      htlcs = t.htlcs;
       pending_commands = t.pending_commands.entries;
     } };
 }
@@ -52,6 +49,8 @@ impl Tables {
     ghost use Rattle.ln_book_tables.specs.Replay.{no_table, same, with_route, with_use, with_height, with_invoice};
     ghost use Rattle.ln_book_tables.specs.Replay.{is_usable, pending_command_at, held_by};
     ghost use Rattle.ln_book_tables.specs.Held.{all_held};
+    ghost use Rattle.std.specs.Prelude.{◌<◌, length, slice_index_or};
+    ghost use Rattle.ln_book_tables.specs.Due.{due_htlcs};
 
     /// Nothing is said. Takes no memory.
     pub fn new(alloc: Global) -> Tables
@@ -63,7 +62,7 @@ impl Tables {
             height: 0,
             expected: IndexMap::new(alloc),
             queue: Vec::new(alloc),
-            htlcs: Vec::new(alloc),
+            htlcs: IndexedHtlcs::new(alloc),
             pending_commands: IndexMap::new(alloc),
         }
     }
@@ -156,6 +155,21 @@ impl Tables {
         self.htlcs.as_slice()
     }
 
+    /// How many HTLCs a command may be due to. The others needn't be looked at for one.
+    pub fn due_count(&self) -> usize
+        ensures { result ≡ length (due_htlcs self.now.htlcs) }
+    {
+        self.htlcs.due_count()
+    }
+
+    /// One of those, by its place among them in order of deciding.
+    pub fn due_at(&self, index: usize) -> &Htlc
+        requires { index < length (due_htlcs self.now.htlcs) }
+        ensures { result.now ≡ slice_index_or (due_htlcs self.now.htlcs) index result.now }
+    {
+        self.htlcs.due_at(index)
+    }
+
     /// The HTLC that is held by the number of this event of the channel, unless it is being resumed.
     pub fn held(&self, channel: &ChannelId, event: u64) -> Option<&Htlc>
         ensures { option_copied result ≡ held_by channel.now event self.now }
@@ -202,11 +216,9 @@ impl Tables {
         ensures changes_nothing_if_refused { OnErr result (self.new ≡ self.old) }
         ensures fails_for_memory_alone { IfErr result (λ r. r ≡ Refusal.Memory) }
     {
-        if !has_room(&mut self.queue, &mut self.htlcs) {
-            return Err(Refusal::Memory);
-        }
-        enqueue(&mut self.queue, &decided, copy);
-        join(&mut self.htlcs, decided);
+        self.queue.reserve(1)?;
+        self.htlcs.join(&decided, copy)?;
+        enqueue(&mut self.queue, decided);
         Ok(())
     }
 
@@ -261,28 +273,24 @@ impl Tables {
             Out::Deciding(event) => {
                 unqueue(&mut self.queue, channel, event);
                 let which = Which::OfEvent(*channel, event);
-                change_first(&mut self.htlcs, &which, Change::Decide);
+                self.htlcs.change_first(&which, Change::Decide);
             }
             Out::Adding(key) => {
                 let channel = *channel;
                 let outgoing = OutgoingLeg::Offered(Key { channel, id });
-                change_first(
-                    &mut self.htlcs,
-                    &Which::Htlc(key),
-                    Change::Outgoing(outgoing),
-                );
+                self.htlcs
+                    .change_first(&Which::Htlc(key), Change::Outgoing(outgoing));
             }
             Out::Removing(key) => {
-                change_first(
-                    &mut self.htlcs,
+                self.htlcs.change_first(
                     &Which::Htlc(key),
                     Change::Incoming(IncomingLeg::RemovalSent),
                 );
             }
-            Out::Forgetting(key) => leave_out(&mut self.htlcs, &Which::Htlc(key)),
+            Out::Forgetting(key) => self.htlcs.leave_out(&Which::Htlc(key)),
             Out::Resuming(event) => {
                 if let Some(queued) = unresume(&mut self.queue, channel, event) {
-                    put_mark(&mut self.htlcs, channel, event, queued.mark);
+                    self.htlcs.put_mark(channel, event, queued.mark);
                 }
             }
         }
@@ -295,24 +303,20 @@ impl Tables {
         match out {
             Out::Deciding(event) => {
                 unqueue(&mut self.queue, channel, event);
-                leave_out(&mut self.htlcs, &Which::Undecided(*channel, event));
+                self.htlcs.leave_out(&Which::Undecided(*channel, event));
             }
             Out::Adding(key) if number < 47 => {
-                change_first(
-                    &mut self.htlcs,
-                    &Which::Htlc(key),
-                    Change::Outgoing(OutgoingLeg::Refused),
-                );
+                self.htlcs
+                    .change_first(&Which::Htlc(key), Change::Outgoing(OutgoingLeg::Refused));
             }
             Out::Removing(key) => {
-                change_first(
-                    &mut self.htlcs,
+                self.htlcs.change_first(
                     &Which::Htlc(key),
                     Change::Incoming(IncomingLeg::RemovalRefused),
                 );
             }
             Out::Adding(key) | Out::Forgetting(key) => {
-                leave_out(&mut self.htlcs, &Which::Htlc(key));
+                self.htlcs.leave_out(&Which::Htlc(key));
             }
             Out::Resuming(event) => drop(unresume(&mut self.queue, channel, event)),
         }
@@ -355,23 +359,17 @@ impl Tables {
         ensures { self.new ≡ with_resolved key how self.old }
     {
         let outgoing = OutgoingLeg::Resolved(key, how);
-        change_first(
-            &mut self.htlcs,
-            &Which::Offered(key),
-            Change::Outgoing(outgoing),
-        );
+        self.htlcs
+            .change_first(&Which::Offered(key), Change::Outgoing(outgoing));
     }
 
     /// The removal of an incoming HTLC is irrevocably committed. Takes no memory.
     pub fn removed(&mut self, key: Key)
         ensures { self.new ≡ with_removed key self.old }
     {
-        change_first(
-            &mut self.htlcs,
-            &Which::Htlc(key),
-            Change::Incoming(IncomingLeg::Settled),
-        );
-        leave_out(&mut self.htlcs, &Which::Finished(key));
+        self.htlcs
+            .change_first(&Which::Htlc(key), Change::Incoming(IncomingLeg::Settled));
+        self.htlcs.leave_out(&Which::Finished(key));
     }
 }
 
@@ -390,8 +388,7 @@ impl Tables {
                 }
             }
             Out::Removing(key) => {
-                change_first(
-                    &mut self.htlcs,
+                self.htlcs.change_first(
                     &Which::Htlc(key),
                     Change::Incoming(IncomingLeg::RemovalSent),
                 );
@@ -418,73 +415,40 @@ impl Tables {
         ensures { self.new ≡ with_dropped channel.now told.now self.old }
     {
         self.close_pending_command(channel, told.decides);
-        put_back_all(&mut self.htlcs, channel, told);
+        self.htlcs.put_back_all(channel, told);
     }
 }
 
 impl Tables {
-    ghost use Rattle.std.specs.Prelude.{◌≡◌, []};
+    ghost use Rattle.std.specs.Prelude.{◌≡◌, ◌≤◌, [], length};
+    ghost use Rattle.std.specs.Vec.{vec_capacity};
 
-    /// These are the HTLCs; nothing is queued, and nothing is out. Takes no memory.
-    pub fn begin(&mut self, alloc: Global, htlcs: Vec<Htlc>)
+    /// These are the HTLCs, and there is room for their places; nothing is queued, and nothing is out. Takes no memory.
+    pub fn begin(&mut self, alloc: Global, htlcs: Vec<Htlc>, places: Vec<usize>)
+        requires { length htlcs.items ≤ vec_capacity places }
         ensures { self.new ≡ record self.old { queue = []; htlcs = htlcs.items; pending_commands = [] } }
     {
         self.queue = Vec::new(alloc);
-        self.htlcs = htlcs;
+        self.htlcs = IndexedHtlcs::of(htlcs, places);
         self.pending_commands = IndexMap::new(alloc);
     }
 }
 
-ghost use Rattle.std.specs.Prelude.{◌≡◌, ◌<◌, IsTrue};
+ghost use Rattle.std.specs.Prelude.{◌≡◌, ◌<◌};
 ghost use Rattle.std.specs.Vec.{vec_capacity, vec_len};
-ghost use Rattle.ln_book_tables.specs.Replay.{is_later, with_queued, with_offer};
-
-// Makes room for one more of each, and says whether there is.
-fn has_room(queue: &mut Vec<Queued>, htlcs: &mut Vec<Htlc>) -> bool
-    ensures room { IsTrue result → (vec_len queue.new < vec_capacity queue.new)
-        × (vec_len htlcs.new < vec_capacity htlcs.new) }
-    ensures same { (queue.new.items ≡ queue.old.items) × (htlcs.new.items ≡ htlcs.old.items) }
-{
-    queue.reserve(1).is_ok() && htlcs.reserve(1).is_ok()
-}
+ghost use Rattle.ln_book_tables.specs.Replay.{is_later, with_queued};
 
 // A decision is the last that its channel is yet to take.
-fn enqueue(queue: &mut Vec<Queued>, decided: &Decided, mark: Mark)
-    requires same { mark ≡ decided.now.mark }
-    requires room { vec_len queue.old < vec_capacity queue.old }
-    ensures { queue.new.items ≡ with_queued decided.now queue.old.items }
+fn enqueue(queue: &mut Vec<Queued>, decided: Decided)
+    requires { vec_len queue.old < vec_capacity queue.old }
+    ensures { queue.new.items ≡ with_queued decided queue.old.items }
 {
     unqueue(queue, &decided.channel, decided.event);
     queue.push_reserved(Queued {
         channel: decided.channel,
         event: decided.event,
-        mark,
-        resumes: false,
-    });
-}
-
-// The HTLC that was decided, if any, joins the others.
-fn join(htlcs: &mut Vec<Htlc>, decided: Decided)
-    requires { vec_len htlcs.old < vec_capacity htlcs.old }
-    ensures { htlcs.new.items ≡ with_offer decided decided.offer htlcs.old.items }
-{
-    let Some(offer) = decided.offer else {
-        return;
-    };
-    let channel = decided.channel;
-    let id = offer.id;
-    let key = Key { channel, id };
-    if leave_out_undecided(htlcs, &key) {
-        return;
-    }
-    htlcs.push_reserved(Htlc {
-        key,
-        event: decided.event,
-        offer,
         mark: decided.mark,
-        decided: false,
-        outgoing: OutgoingLeg::Absent,
-        incoming: IncomingLeg::Open,
+        resumes: false,
     });
 }
 
