@@ -14,7 +14,7 @@ use ln_msgs::Refusal;
 use ln_tests_links::{at, bytes_of, code, numbers, wide};
 use std::alloc::{AllocError, Global};
 
-fn told(alloc: Global, outcome: Result<(), Refusal>) -> Result<String, AllocError> {
+fn shown(alloc: Global, outcome: Result<(), Refusal>) -> Result<String, AllocError> {
     match outcome {
         Ok(()) => String::from_str(alloc, "done"),
         Err(_) => String::from_str(alloc, "refused"),
@@ -129,7 +129,7 @@ fn settled(alloc: Global, book: &mut Book, words: &[u64]) -> Result<String, Allo
             how,
         },
     )?;
-    told(alloc, book.settled(alloc, bytes_of(at(words, 1)), &event))
+    shown(alloc, book.settled(alloc, bytes_of(at(words, 1)), &event))
 }
 
 // The channel.
@@ -159,16 +159,16 @@ fn dropped(alloc: Global, book: &mut Book, words: &[u64]) -> Result<String, Allo
         removals,
         decided: at(words, 3),
     };
-    told(alloc, book.dropped(alloc, bytes_of(at(words, 1)), &answers))
+    shown(alloc, book.dropped(alloc, bytes_of(at(words, 1)), &answers))
 }
 
 // What is set: a route, whether a channel takes payments, the height, an invoice.
 fn set(alloc: Global, book: &mut Book, word: &str, words: &[u64]) -> Result<String, AllocError> {
     let number = bytes_of(at(words, 1));
     match word {
-        "route" => told(alloc, set_route(book, words)),
-        "use" => told(alloc, book.set_usable(number, at(words, 2) == 1)),
-        "expect" => told(
+        "route" => shown(alloc, set_route(book, words)),
+        "use" => shown(alloc, book.set_usable(number, at(words, 2) == 1)),
+        "expect" => shown(
             alloc,
             book.expect(number, bytes_of(at(words, 2)), at(words, 3)),
         ),
@@ -238,7 +238,7 @@ fn call_book(
             String::from_str(alloc, "done")
         }
         "dropped" => dropped(alloc, book, words),
-        "rebuild" => told(alloc, book.rebuild(alloc, &[])),
+        "rebuild" => shown(alloc, book.rebuild(alloc, &[])),
         "usable" => usable(alloc, book, words),
         "payments" => paid(alloc, book, words),
         word => set(alloc, book, word, words),

@@ -12,7 +12,7 @@ type End = ChannelMachine<ToyKeys>;
 
 /// An event of the node's end, with its number.
 #[derive(Drop)]
-pub struct Told {
+pub struct Shown {
     pub number: u64,
     pub event: ChannelEvent,
 }
@@ -82,10 +82,10 @@ fn fundee(alloc: Global) -> Result<Box<End>, Refusal> {
 }
 
 /// Puts a message behind the others, an event behind those told; of the rest nothing is needed.
-fn sort(output: Output, messages: &mut Vec<Message>, told: &mut Vec<Told>) -> Result<(), Refusal> {
+fn sort(output: Output, messages: &mut Vec<Message>, told: &mut Vec<Shown>) -> Result<(), Refusal> {
     match output {
         Output::Send(message) => push(messages, message),
-        Output::Event(number, event) => push(told, Told { number, event }),
+        Output::Event(number, event) => push(told, Shown { number, event }),
         other => {
             drop(other);
             Ok(())
@@ -96,7 +96,7 @@ fn sort(output: Output, messages: &mut Vec<Message>, told: &mut Vec<Told>) -> Re
 fn sorted(
     alloc: Global,
     outputs: Vec<Output>,
-    told: &mut Vec<Told>,
+    told: &mut Vec<Shown>,
 ) -> Result<Vec<Message>, Refusal> {
     let mut messages = Vec::new(alloc);
     for output in outputs {
@@ -110,7 +110,7 @@ fn taken(
     alloc: Global,
     messages: Vec<Message>,
     end: &mut End,
-    told: &mut Vec<Told>,
+    told: &mut Vec<Shown>,
 ) -> Result<Vec<Message>, Refusal> {
     let mut answers = Vec::new(alloc);
     for message in messages {
@@ -128,7 +128,7 @@ fn passed(
     ends: &mut Ends,
     to_own: Vec<Message>,
     to_peer: Vec<Message>,
-    told: &mut Vec<Told>,
+    told: &mut Vec<Shown>,
 ) -> Result<(), Refusal> {
     let mut to_own = to_own;
     let mut to_peer = to_peer;
@@ -146,7 +146,7 @@ impl Ends {
     pub fn open(
         alloc: Global,
         channel: [u8; 32],
-        told: &mut Vec<Told>,
+        told: &mut Vec<Shown>,
     ) -> Result<Box<Ends>, Refusal> {
         let own = funder(alloc, channel)?;
         let peer = fundee(alloc)?;
@@ -161,7 +161,7 @@ impl Ends {
     }
 
     /// There is a connection.
-    pub fn connect(&mut self, alloc: Global, told: &mut Vec<Told>) -> Result<(), Refusal> {
+    pub fn connect(&mut self, alloc: Global, told: &mut Vec<Shown>) -> Result<(), Refusal> {
         let from_peer = self.peer.connect(alloc)?;
         let from_own = self.own.connect(alloc)?;
         let to_own = sorted(alloc, from_peer, told)?;
@@ -190,7 +190,7 @@ impl Ends {
         &mut self,
         alloc: Global,
         command: Command,
-        told: &mut Vec<Told>,
+        told: &mut Vec<Shown>,
     ) -> Result<(), Refusal> {
         let outputs = self.own.command(alloc, command)?;
         let to_peer = sorted(alloc, outputs, told)?;
@@ -202,7 +202,7 @@ impl Ends {
         &mut self,
         alloc: Global,
         command: Command,
-        told: &mut Vec<Told>,
+        told: &mut Vec<Shown>,
     ) -> Result<(), Refusal> {
         let outputs = self.peer.command(alloc, command)?;
         let to_own = sorted(alloc, outputs, &mut Vec::new(alloc))?;
@@ -214,7 +214,7 @@ impl Ends {
         &mut self,
         alloc: Global,
         signing: Signing,
-        told: &mut Vec<Told>,
+        told: &mut Vec<Shown>,
     ) -> Result<(), Refusal> {
         match signing {
             Signing::Own => self.obey(alloc, Command::Sign, told),

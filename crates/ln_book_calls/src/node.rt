@@ -1,6 +1,6 @@
 //! A node: its book, and the channels whose ends it asks.
 
-use crate::ends::{Ends, Signing, Told};
+use crate::ends::{Ends, Shown, Signing};
 use crate::onion::onion_of;
 use crate::show::show_command;
 use ln_book::Book;
@@ -34,7 +34,7 @@ fn note(
     book: &mut Book,
     verdict: Verdict,
     channel: ChannelId,
-    all: &[Told],
+    all: &[Shown],
 ) -> Result<usize, Refusal> {
     for told in all {
         drop(book.decide(alloc, &ToyOnion, channel, told.number, &told.event, verdict)?);
@@ -86,7 +86,7 @@ impl NodeChannel {
         alloc: Global,
         word: &str,
         words: &[u64],
-        told: &mut Vec<Told>,
+        told: &mut Vec<Shown>,
     ) -> Result<(), Refusal> {
         let rest = words.get(2..).unwrap_or(&[]);
         match word {
@@ -120,7 +120,7 @@ impl NodeChannel {
         &mut self,
         alloc: Global,
         command: Command,
-        told: &mut Vec<Told>,
+        told: &mut Vec<Shown>,
     ) -> Result<u64, u16> {
         let next = self.next_id();
         match self.ends.obey(alloc, command, told) {

@@ -197,7 +197,7 @@ impl Channel {
         ensures same_dance { self.new.dance ≡ self.old.dance }
         ensures same_channel { self.new.dance.channel ≡ self.old.dance.channel }
     {
-        outbox.tell(self.committed())?;
+        outbox.report(self.committed())?;
         let updates = own_since(&self.dance, before);
         self.ledger.enter_all(alloc, true, before, updates, outbox)
     }
@@ -222,7 +222,7 @@ impl Channel {
         ensures same_dance { self.new.dance ≡ self.old.dance }
         ensures same_channel { self.new.dance.channel ≡ self.old.dance.channel }
     {
-        outbox.tell(self.committed())?;
+        outbox.report(self.committed())?;
         let updates = peer_since(&self.dance, before);
         self.ledger.enter_all(alloc, false, before, updates, outbox)
     }

@@ -227,7 +227,7 @@ impl Channel {
         let message = self.sign_next(alloc, keys)?;
         let mut outbox = Outbox::new(alloc);
         outbox.send(Message::CommitmentSigned(message))?;
-        outbox.tell(Output::Signed(covered as u64))?;
+        outbox.report(Output::Signed(covered as u64))?;
         Ok(outbox)
     }
 

@@ -147,7 +147,7 @@ impl EventLedger {
         }) }
         ensures fails_for_memory_alone { IfErr result (λ r. r ≡ Refusal.Memory) }
     {
-        outbox.tell(Output::Event(self.next(), event))?;
+        outbox.report(Output::Event(self.next(), event))?;
         self.undecided.push(entry)?;
         Ok(())
     }
@@ -191,7 +191,7 @@ impl EventLedger {
         ensures fails_for_memory_alone { IfErr result (λ r. r ≡ Refusal.Memory) }
     {
         self.enter(EventRef::Close, ChannelEvent::Closed(fee), outbox)?;
-        outbox.tell(Output::Closed(fee))
+        outbox.report(Output::Closed(fee))
     }
 }
 

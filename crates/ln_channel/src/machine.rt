@@ -232,7 +232,7 @@ impl<K: ChannelKeys + Drop> ChannelMachine<K> {
         if !self.connection.is_down() {
             return Err(Refusal::NotReady);
         }
-        match self.greet(alloc) {
+        match self.first_message(alloc) {
             Ok(outbox) => self.hand_out(outbox),
             Err(Refusal::Memory) => Err(self.halted_by_memory()),
             Err(refusal) => Err(refusal),
@@ -240,7 +240,7 @@ impl<K: ChannelKeys + Drop> ChannelMachine<K> {
     }
 
     // What it sends first over a connection.
-    fn greet(&mut self, alloc: Global) -> Result<Outbox, Refusal>
+    fn first_message(&mut self, alloc: Global) -> Result<Outbox, Refusal>
         ensures moves { (l : State K) → StandsFor self.old l
             → MovesBy (connects (K.signer l.keys) l.stage) result l self.new }
         ensures same_link { (l : State K) → StandsFor self.old l → IsSameLink l self.new }

@@ -71,12 +71,12 @@ impl Outbox {
         Ok(())
     }
 
-    /// Something to be told.
-    pub(crate) fn tell(&mut self, told: Output) -> Result<(), Refusal>
-        ensures told { OnOk result (self.new ≡ record { sent = self.old.sent; told = self.old.told ++ told ∷ [] }) }
+    /// Something to be told to the user.
+    pub(crate) fn report(&mut self, output: Output) -> Result<(), Refusal>
+        ensures told { OnOk result (self.new ≡ record { sent = self.old.sent; told = self.old.told ++ output ∷ [] }) }
         ensures fails_for_memory_alone { IfErr result (λ r. r ≡ Refusal.Memory) }
     {
-        self.told.push(told)?;
+        self.told.push(output)?;
         Ok(())
     }
 

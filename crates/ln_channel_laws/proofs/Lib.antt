@@ -3,7 +3,7 @@ pub mod Offered
 mod All
 mod Tests
 mod Flight
-mod Marks
+mod Readiness
 mod Closing
 mod Fees
 mod Ends

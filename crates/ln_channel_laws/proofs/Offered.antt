@@ -37,10 +37,10 @@ pub use Rattle.ln_channel_laws.proofs.Events.EventsOverRuns.{events_so, in_step_
 pub use Rattle.ln_channel_laws.proofs.Events.CloseIsLast.{closes_last, handed_last}
 -- what every list of steps promises
 pub use Rattle.ln_channel_laws.proofs.Ends.Runs.{flipped}
-pub use Rattle.ln_channel_laws.proofs.Ends.Promised.{at_end, headline, none_refused, agrees, marks_agree}
+pub use Rattle.ln_channel_laws.proofs.Ends.Promised.{at_end, headline, none_refused, agrees, readiness_agrees}
 pub use Rattle.ln_channel_laws.proofs.Ends.Promised.{none_adds_late}
 pub use Rattle.ln_channel_laws.proofs.Ends.Signatures.{both_sign}
-pub use Rattle.ln_channel_laws.proofs.Marks.ShutdownAnswered.{all_answered}
+pub use Rattle.ln_channel_laws.proofs.Readiness.ShutdownAnswered.{all_answered}
 pub use Rattle.ln_channel_laws.proofs.Fees.Deals.{run_fees}
 pub use Rattle.ln_channel_laws.proofs.Fees.OneFee.{one_fee, all_taken}
 pub use Rattle.ln_channel_laws.proofs.Closing.ClosingEnds.{both_close}

@@ -1,5 +1,5 @@
--- When an end does what a command asks for: it has met its peer, its marks let it, and the channel's machine may make
--- the move (BOLT 2, "Normal Operation" and "Channel Close").
+-- When an end does what a command asks for: it has met its peer, its readiness lets it, and the channel's machine may
+-- make the move (BOLT 2, "Normal Operation" and "Channel Close").
 use Rattle.std.specs.Prelude.{◌≡◌, ◌≢◌, ◌↔◌, ◌-◌, ◌^◌, ◌<◌, ◌≤◌, List, [], ◌∷◌, length, true, false, Option, Some, None}
 use Rattle.ln_keys.specs.declared.role.Role.{Role}
 use Rattle.ln_keys.specs.declared.role.Role.TheVariants.{Funder, Fundee}
@@ -14,7 +14,7 @@ use Rattle.ln_channel_laws.specs.Ends.{Ends, command_at}
 use Rattle.ln_channel_laws.specs.Promises.{IsTaken}
 use Rattle.ln_channel_laws.specs.Moves.{moves_asked, machine_of}
 
--- ---- what a command asks of the end's own marks
+-- ---- what a command asks of the end's own readiness
 
 -- both channel_ready were sent
 abbrev pub IsReady : End → Type 0

@@ -119,15 +119,15 @@ pub record IsQuiet (p : Ends) : Type 0 where
   pub to_y : p.to_y ≡ []
 
 -- y has taken x's shutdown where x has sent one, and its channel_ready, which an end that has closed passes over
-pub record HasTakenMarks (x y : End) : Type 0 where
+pub record HasTakenReadiness (x y : End) : Type 0 where
   pub shutdown : y.closing.peer_shut ≡ x.closing.shut
   pub ready : y.closing.closed ≡ None → y.readiness.ready_received ≡ x.readiness.ready_sent
 
-abbrev pub SameMarks : End → End → Type 0
-SameMarks x y = HasTakenMarks x y × HasTakenMarks y x
+abbrev pub SameReadiness : End → End → Type 0
+SameReadiness x y = HasTakenReadiness x y × HasTakenReadiness y x
 
-abbrev pub MarksAgree : Ends → Type 0
-MarksAgree p = IsQuiet p → SameMarks p.x p.y
+abbrev pub ReadinessAgrees : Ends → Type 0
+ReadinessAgrees p = IsQuiet p → SameReadiness p.x p.y
 
 -- ---- no add behind the own shutdown (BOLT 2, "Closing Initiation: shutdown")
 

@@ -47,7 +47,7 @@ IsUpdate (update.Fail f) = IsFail f
 IsUpdate (update.Malformed m) = IsMalformed m
 IsUpdate (update.Fee f) = f.feerate < 2 ^ 32
 
--- ---- marks
+-- ---- readiness
 
 pub record IsForward (channel : List ℕ) (amount expiry : ℕ) : Type 0 where
   pub channel_fits : length channel ≡ 32

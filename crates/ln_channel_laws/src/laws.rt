@@ -24,7 +24,7 @@ ghost use Rattle.ln_channel_laws.specs.Answers.{BothHaveAnswered};
 ghost use Rattle.ln_channel_laws.specs.Closes.{BothClose};
 ghost use Rattle.ln_channel_laws.specs.Doing.{BothDo};
 ghost use Rattle.ln_channel_laws.specs.Longest.{BothAreLongest};
-ghost use Rattle.ln_channel_laws.specs.Promises.{OneFee, Agrees, NoneAddsLate, MarksAgree};
+ghost use Rattle.ln_channel_laws.specs.Promises.{OneFee, Agrees, NoneAddsLate, ReadinessAgrees};
 ghost use Rattle.ln_channel_laws.specs.Setup.{setup_of, AreSetUp};
 ghost use Rattle.ln_channel_laws.specs.Signing.{BothSign, SignsIn};
 
@@ -67,9 +67,9 @@ pub fn both_agree_at_rest()
 
 /// A law: where both ends have met and nothing is in flight, either has taken the other's `shutdown` exactly where one
 /// was sent, and its `channel_ready` likewise, unless it has closed: an end that has closed passes that over.
-pub fn marks_agree_at_rest()
+pub fn readiness_agrees_at_rest()
     ensures { (a b : Signer) (s : OpenSpec) (c : Config) (funder fundee : Opened) (steps : List Step) → ArePartners a b
-        → Opens a b s c funder fundee → MarksAgree (run a b steps (opened funder fundee)) }
+        → Opens a b s c funder fundee → ReadinessAgrees (run a b steps (opened funder fundee)) }
 {}
 
 /// A law: of all that an end has sent, over all its connections, no `update_add_htlc` stands behind a `shutdown`.
@@ -115,7 +115,7 @@ pub fn steps_are_those_of_a_link()
         → obeyed keys l c (stage.Funded e) ≡ turned l (command_at keys l c e) }
 {}
 
-/// A law: either end does what a command asks for exactly where it has met its peer, its own marks let it (both
+/// A law: either end does what a command asks for exactly where it has met its peer, its own readiness lets it (both
 /// `channel_ready` were sent, the peer hasn't shut down, a number is left, no message is too long), and the channel's
 /// machine may make the move. So no end refuses an update, a signature or a shutdown that it may send.
 pub fn commands_are_done_exactly()

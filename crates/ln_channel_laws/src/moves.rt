@@ -44,7 +44,7 @@ pub fn each_move_may_be_made()
 /// A law: the events among all that an end hands out over all steps, with their numbers, are those of the moves for its
 /// side: each once, in their order, numbered from 0. These are each add and each removal of either side as the end
 /// comes to hold it as irrevocably committed, and its close; an add of more than an event can tell is none.
-pub fn events_are_told()
+pub fn events_are_reported()
     ensures { (a b : Signer) (s : OpenSpec) (c : Config) (funder fundee : Opened) (steps : List Step) (side : Role)
         → ArePartners a b → Opens a b s c funder fundee
         → events_in (all_told a b side steps (opened funder fundee))

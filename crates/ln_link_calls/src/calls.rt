@@ -4,7 +4,7 @@ use crate::channel::{again, renew};
 use crate::commands::{command, is_command};
 use crate::end::End;
 use crate::line::bytes_of_parts;
-use crate::show::{pending, record, refused, stand, told};
+use crate::show::{pending, record, refused, shown, stand};
 use ln_bytes::Fault;
 use ln_msgs::{Incoming, Message, decode};
 use ln_store::RecordStore;
@@ -26,7 +26,7 @@ fn take(alloc: Global, x: &mut End, y: &mut End, bytes: &[u8]) -> Result<String,
         Ok(Incoming::Known(message)) => {
             let replies = !is_error(&message);
             let answer = x.link.handle(alloc, &mut *x.store, message);
-            told(alloc, answer, y, replies)
+            shown(alloc, answer, y, replies)
         }
         Ok(Incoming::Ignored(_)) => String::from_str(alloc, "ignored"),
         Err(Fault::Memory) => Err(AllocError),
@@ -119,9 +119,9 @@ fn fail(alloc: Global, x: &mut End, line: &str, words: &[u64]) -> Result<String,
 fn up(alloc: Global, x: &mut End, y: &mut End) -> Result<String, AllocError> {
     let first = x.link.connect(alloc);
     let last = y.link.connect(alloc);
-    let mut text = told(alloc, first, y, false)?;
+    let mut text = shown(alloc, first, y, false)?;
     text.push_str(" ")?;
-    let others = told(alloc, last, x, false)?;
+    let others = shown(alloc, last, x, false)?;
     text.push_str(others.as_str())?;
     Ok(text)
 }
@@ -131,7 +131,7 @@ fn connection(alloc: Global, x: &mut End, y: &mut End, word: &str) -> Result<Str
     match word {
         "connect" => {
             let answer = x.link.connect(alloc);
-            told(alloc, answer, y, false)
+            shown(alloc, answer, y, false)
         }
         "up" => up(alloc, x, y),
         "drop" => {

@@ -4,7 +4,7 @@ use crate::calls::pass;
 use crate::commands::command;
 use crate::end::End;
 use crate::opening::{USUAL, fundee, funder};
-use crate::show::told;
+use crate::show::shown;
 use ln_tests_links::numbers;
 use std::alloc::{AllocError, Global};
 use std::mem;
@@ -28,7 +28,7 @@ fn made(alloc: Global, line: &str) -> Result<Option<Vec<Box<End>>>, AllocError> 
 fn opened(alloc: Global, a: &mut End, b: &mut End) -> Result<String, AllocError> {
     drop(b.link.connect(alloc));
     let answer = a.link.connect(alloc);
-    told(alloc, answer, b, false)
+    shown(alloc, answer, b, false)
 }
 
 /// The opening is over, and both have confirmed the funding: what they answer to that.

@@ -2,7 +2,7 @@
 
 use crate::end::End;
 use crate::line::filled;
-use crate::show::told;
+use crate::show::shown;
 use ln_bytes::{Bytes, ShortId};
 use ln_channel::Command;
 use ln_keys::sha256_32;
@@ -108,7 +108,7 @@ pub fn command(
     let answer = x
         .link
         .command(alloc, &mut *x.store, Box::into_inner(command));
-    told(alloc, answer, y, false)
+    shown(alloc, answer, y, false)
 }
 
 /// Whether a word is a command's.

@@ -133,7 +133,7 @@ fn handed(alloc: Global, outputs: &[Output], y: &mut End) -> Result<String, Allo
 }
 
 /// What a link answers. What it sends is in flight to the other end.
-pub fn told(
+pub fn shown(
     alloc: Global,
     answer: Result<Vec<Output>, Refusal>,
     y: &mut End,

@@ -8,7 +8,7 @@ use Rattle.std.specs.contracts.option.Option as Option
 use Rattle.ln_forward.specs.contracts.checks.Policy as Policy
 use Rattle.ln_book.proofs.book.Book.TheSendSync as book
 use Rattle.ln_switch.specs.contracts.uses.Use as Use
-use Rattle.ln_switch.specs.contracts.seat.Seat as Seat
+use Rattle.ln_switch.specs.contracts.handle.BookHandle as BookHandle
 use Rattle.ln_node.proofs.wakeup.Wakeup.TheSendSync as wakeup
 use Rattle.ln_node.proofs.notices.Notices.TheSendSync as notices
 use Rattle.ln_node.proofs.observer.Observer.TheSendSync as observer
@@ -22,9 +22,9 @@ policy_send = search sendable depth 9
 use_send : IsSend Use.the_row
 use_send = search sendable depth 12
 
-seat_send : (O : RattleType) → IsSend O → IsSend (Seat.the_row O)
-seat_send O o =
-    declared_send (Seat.the_type O) (
+handle_send : (O : RattleType) → IsSend O → IsSend (BookHandle.the_row O)
+handle_send O o =
+    declared_send (BookHandle.the_type O) (
       search sendable depth 8,
       (
         policy_send,
@@ -50,7 +50,7 @@ shared_send O o =
     declared_send (SharedBook.the_type O) (
       search (sendable, crosses, node_book_send, node_book_sync) depth 9,
       (
-        seat_send O o,
+        handle_send O o,
         (
           search (sendable, crosses, once.the_send, once.the_sync) depth 9,
           (

@@ -45,7 +45,7 @@ pub enum Answer {
 }
 
 #[derive(Drop)]
-struct Kept {
+struct AnswerRing {
     // How many orders were put, and how many of them were answered.
     put: u64,
     answered: u64,
@@ -53,7 +53,7 @@ struct Kept {
     latest: [Answer; 256],
 }
 
-impl Kept {
+impl AnswerRing {
     // One order more was put. Gives its number.
     fn put(&mut self) -> u64 {
         let number = self.put;
@@ -97,19 +97,19 @@ impl Kept {
 
 /// What a channel's worker and those who order it something share: the answers to orders, and when it signs.
 #[derive(Drop)]
-pub(crate) struct Desk {
-    kept: Mutex<Kept>,
+pub(crate) struct OrderAnswers {
+    kept: Mutex<AnswerRing>,
     // Sounds after each answer.
     wakeup: Wakeup,
     // 1 where the worker signs unasked.
     signs: AtomicU64,
 }
 
-impl Desk {
+impl OrderAnswers {
     /// That of a channel that signs so, which was ordered nothing. Takes no memory.
-    pub(crate) fn new(signing: Signing) -> Desk {
-        let desk = Desk {
-            kept: Mutex::new(Kept {
+    pub(crate) fn new(signing: Signing) -> OrderAnswers {
+        let answers = OrderAnswers {
+            kept: Mutex::new(AnswerRing {
                 put: 0,
                 answered: 0,
                 latest: [Answer::Forgotten; 256],
@@ -117,8 +117,8 @@ impl Desk {
             wakeup: Wakeup::new(),
             signs: AtomicU64::new(0),
         };
-        desk.set_signing(signing);
-        desk
+        answers.set_signing(signing);
+        answers
     }
 
     /// When the worker signs from now on.
@@ -168,10 +168,10 @@ impl Desk {
     }
 }
 
-/// A channel's desk, as its worker has it.
+/// The answers to a channel's orders, as its worker gives them.
 #[derive(Drop)]
-pub(crate) struct DeskSeat {
-    desk: Arc<Desk>,
+pub(crate) struct OrderReplies {
+    answers: Arc<OrderAnswers>,
     notices: Arc<Notices>,
     // The channel's number.
     channel: usize,
@@ -180,15 +180,19 @@ pub(crate) struct DeskSeat {
     allowed: Past<(), bool>,
 }
 
-impl DeskSeat {
+impl OrderReplies {
     ghost use Rattle.std.specs.Prelude.{◌≡◌, []};
 
-    /// At this desk, of a channel of this number, where nothing was replied. Takes no memory.
-    pub(crate) fn new(desk: Arc<Desk>, notices: Arc<Notices>, channel: usize) -> DeskSeat
+    /// Into these answers, of a channel of this number, where nothing was replied. Takes no memory.
+    pub(crate) fn new(
+        answers: Arc<OrderAnswers>,
+        notices: Arc<Notices>,
+        channel: usize,
+    ) -> OrderReplies
         ensures nothing_was_replied { result.replied.told.entries ≡ [] }
     {
-        DeskSeat {
-            desk,
+        OrderReplies {
+            answers,
             notices,
             channel,
             replied: Past::begun(&()),
@@ -197,7 +201,7 @@ impl DeskSeat {
     }
 }
 
-impl Orders for DeskSeat {
+impl Orders for OrderReplies {
     ghost replied = { λ d. d.replied.told.entries };
 
     ghost allowed = { λ d. d.allowed.told.entries };
@@ -205,10 +209,10 @@ impl Orders for DeskSeat {
     fn reply<R: Wait>(&mut self, rt: &R, answer: Result<u64, Refusal>) {
         match answer {
             Ok(id) => {
-                self.desk.add(rt, Answer::Done(id));
+                self.answers.add(rt, Answer::Done(id));
             }
             Err(refusal) => {
-                let number = self.desk.add(rt, Answer::Refused(refusal));
+                let number = self.answers.add(rt, Answer::Refused(refusal));
                 self.notices
                     .add(rt, self.channel, Notice::OrderRefused(number, refusal));
             }
@@ -217,7 +221,7 @@ impl Orders for DeskSeat {
     }
 
     fn signs(&mut self) -> bool {
-        let signs = self.desk.signs();
+        let signs = self.answers.signs();
         self.allowed = self.allowed.and(&signs);
         signs
     }
@@ -261,7 +265,7 @@ where
     pub fn wait_for_answer<R: Wait>(&self, rt: &R, ticket: Ticket, millis: u64) -> Answer {
         match self.channels.get(ticket.channel) {
             None => Answer::Forgotten,
-            Some(threads) => threads.desk().wait(rt, ticket.number, millis),
+            Some(threads) => threads.answers().wait(rt, ticket.number, millis),
         }
     }
 }

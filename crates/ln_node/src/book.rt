@@ -1,7 +1,7 @@
 //! The book of a node, as the threads of its channels reach it.
 
 ghost use Rattle.std.specs.Prelude.{◌≡◌, [], IfOk};
-ghost use Rattle.ln_switch.specs.Seats.{policy_of};
+ghost use Rattle.ln_switch.specs.Handles.{policy_of};
 
 use crate::notices::Notices;
 use crate::observer::{Monitor, Observer};
@@ -16,7 +16,7 @@ use ln_log::{ChannelId, Mark};
 use ln_msgs::Refusal;
 use ln_node_loops::{Books, Notice, ReadsEnds};
 use ln_store::RecordStore;
-use ln_switch::{Seat, Use, use_of, waits};
+use ln_switch::{BookHandle, Use, use_of, waits};
 use ln_watch::Watch;
 use std::alloc::{AllocError, Global};
 use std::snapshot::Snapshot;
@@ -46,7 +46,7 @@ impl NodeBook {
 #[derive(Drop)]
 pub struct SharedBook<O: Drop> {
     book: Arc<NodeBook>,
-    seat: Seat<O>,
+    handle: BookHandle<O>,
     // The channel, once both have signed its opening.
     id: Arc<OnceLock<ChannelId>>,
     // Sounds where a worker of the node may have something to do.
@@ -80,7 +80,7 @@ pub(crate) struct Common<O: Drop> {
 }
 
 impl<O: Onion + Copy + Drop> SharedBook<O> {
-    ghost use Rattle.ln_switch.specs.Seats.{said};
+    ghost use Rattle.ln_switch.specs.Handles.{said};
     ghost use Rattle.ln_node.specs.Books.{begun_at, begun_in};
 
     // The book, for a thread of this channel of the node, whose id will be told here; its summary is this, and this
@@ -94,12 +94,12 @@ impl<O: Onion + Copy + Drop> SharedBook<O> {
         number: usize,
     ) -> Result<SharedBook<O>, AllocError>
         ensures reaches_the_book { IfOk result (λ b. begun_at b ≡ begun_in common.now) }
-        ensures asks_by_the_policy { IfOk result (λ b. policy_of b.seat ≡ common.now.policy) }
-        ensures nothing_was_said { IfOk result (λ b. said b.seat ≡ []) }
+        ensures asks_by_the_policy { IfOk result (λ b. policy_of b.handle ≡ common.now.policy) }
+        ensures nothing_was_said { IfOk result (λ b. said b.handle ≡ []) }
     {
         Ok(SharedBook {
             book: Arc::try_clone(&common.book)?,
-            seat: Seat::new(common.onion, common.policy),
+            handle: BookHandle::new(common.onion, common.policy),
             id,
             wakeup: Arc::try_clone(&common.wakeup)?,
             notices: Arc::try_clone(&common.notices)?,
@@ -121,9 +121,9 @@ impl<O: Onion + Copy + Drop> SharedBook<O> {
     ) -> Result<(SharedBook<O>, SharedBook<O>), AllocError>
         ensures reach_the_book { IfOk result (λ b. (begun_at b.0 ≡ begun_in common.now)
             × (begun_at b.1 ≡ begun_in common.now)) }
-        ensures asks_by_the_policy { IfOk result (λ b. (policy_of b.0.seat ≡ common.now.policy)
-            × (policy_of b.1.seat ≡ common.now.policy)) }
-        ensures nothing_was_said { IfOk result (λ b. (said b.0.seat ≡ []) × (said b.1.seat ≡ [])) }
+        ensures asks_by_the_policy { IfOk result (λ b. (policy_of b.0.handle ≡ common.now.policy)
+            × (policy_of b.1.handle ≡ common.now.policy)) }
+        ensures nothing_was_said { IfOk result (λ b. (said b.0.handle ≡ []) × (said b.1.handle ≡ [])) }
     {
         let id = Arc::new(alloc, OnceLock::new())?;
         let again = Arc::try_clone(&id)?;
@@ -146,13 +146,13 @@ impl<O: Onion + Copy + Drop> SharedBook<O> {
 }
 
 impl<O: Onion + Copy + Drop> Books for SharedBook<O> {
-    ghost use Rattle.ln_switch.specs.Seats as seats;
+    ghost use Rattle.ln_switch.specs.Handles as handles;
 
-    ghost said = { λ b. seats.said b.seat };
+    ghost said = { λ b. handles.said b.handle };
 
     fn take<R: Wait>(&mut self, rt: &R, alloc: Global, channel: ChannelId) -> Option<Command> {
         let mut book = self.book.kept.lock(rt);
-        match self.seat.take(alloc, &mut book, channel) {
+        match self.handle.take(alloc, &mut book, channel) {
             Ok(command) => command,
             Err(_) => None,
         }
@@ -160,7 +160,7 @@ impl<O: Onion + Copy + Drop> Books for SharedBook<O> {
 
     fn answered<R: Wait>(&mut self, rt: &R, channel: ChannelId, answer: Result<u64, u16>) {
         let mut book = self.book.kept.lock(rt);
-        self.seat.answered(&mut book, channel, answer);
+        self.handle.answered(&mut book, channel, answer);
         if !waits(answer) {
             self.wakeup.ring();
         }
@@ -174,7 +174,7 @@ impl<O: Onion + Copy + Drop> Books for SharedBook<O> {
         told: &ChannelEvent,
     ) -> Result<(), Refusal> {
         let mut book = self.book.kept.lock(rt);
-        let done = self.seat.settled(alloc, &mut book, channel, told);
+        let done = self.handle.settled(alloc, &mut book, channel, told);
         self.wakeup.ring();
         done
     }
@@ -190,7 +190,7 @@ impl<O: Onion + Copy + Drop> Books for SharedBook<O> {
     ) -> Result<(), Refusal> {
         let mut book = self.book.kept.lock(rt);
         let decided = self
-            .seat
+            .handle
             .decide(alloc, &mut book, channel, number, event, verdict);
         match decided {
             Ok(mark) => {
@@ -208,20 +208,20 @@ impl<O: Onion + Copy + Drop> Books for SharedBook<O> {
 
 impl<O: Onion + Copy + Drop> SharedBook<O> {
     ghost use Rattle.std.specs.Prelude.{◌++◌, ◌∷◌, OnOk, OnErr};
-    ghost use Rattle.ln_switch.specs.Seats.{said};
+    ghost use Rattle.ln_switch.specs.Handles.{said};
     ghost use Rattle.ln_switch.specs.Saying.{uses};
 
     // Tells the book which payments the channel's end takes, unless it was told last.
     fn notify_use<R: Wait>(&mut self, rt: &R, used: Use) -> Result<(), Refusal>
-        ensures says_the_use { OnOk result (said self.new.seat ≡ said self.old.seat ++ uses used ∷ []) }
-        ensures says_nothing_if_refused { OnErr result (said self.new.seat ≡ said self.old.seat) }
+        ensures says_the_use { OnOk result (said self.new.handle ≡ said self.old.handle ++ uses used ∷ []) }
+        ensures says_nothing_if_refused { OnErr result (said self.new.handle ≡ said self.old.handle) }
     {
-        if !self.seat.is_news(used) {
-            self.seat.still(used);
+        if !self.handle.is_news(used) {
+            self.handle.still(used);
             return Ok(());
         }
         let mut book = self.book.kept.lock(rt);
-        let done = self.seat.follow(&mut book, used);
+        let done = self.handle.follow(&mut book, used);
         self.wakeup.ring();
         done
     }
@@ -250,7 +250,7 @@ where
             None => Ok(()),
             Some(channel) => {
                 let mut book = self.book.kept.lock(rt);
-                let done = self.seat.dropped(alloc, &mut book, channel);
+                let done = self.handle.dropped(alloc, &mut book, channel);
                 self.wakeup.ring();
                 done
             }

@@ -1,6 +1,6 @@
 //! What a node has of a channel: its threads, and the seats that callers use.
 
-use crate::asking::{Desk, DeskSeat};
+use crate::asking::{OrderAnswers, OrderReplies};
 use crate::reader::Connections;
 use crate::seat::{PatientSeat, WakingSeat};
 use crate::socket::Socket;
@@ -29,25 +29,25 @@ pub(crate) type ItemSeat<W> = WakingSeat<SendSeat<Item<Socket<W>>>>;
 pub(crate) type ReadSeat<W> = PatientSeat<ItemSeat<W>>;
 
 /// A worker with its seats.
-pub(crate) type EndBench<E, H, B, W> = WorkerLoop<
+pub(crate) type EndLoop<E, H, B, W> = WorkerLoop<
     E,
     Socket<W>,
     RecvSeat<Item<Socket<W>>>,
     WaitSend<Task<H>>,
     B,
-    DeskSeat,
+    OrderReplies,
 >;
 
 /// A channel of a node, whose end is an `E`.
 #[derive(Drop)]
 pub(crate) struct ChannelThreads<E: Drop, H: Drop, T: Drop, B: Drop, W: Drop> {
     orders: Mutex<ItemSeat<W>>,
-    desk: Arc<Desk>,
+    answers: Arc<OrderAnswers>,
     hooks: Mutex<WaitSend<Task<H>>>,
     bound: Option<SocketAddr>,
     connections: Arc<Connections<W>>,
     reader: JoinHandle<ReadSeat<W>>,
-    worker: JoinHandle<EndBench<E, H, B, W>>,
+    worker: JoinHandle<EndLoop<E, H, B, W>>,
     dispatcher: JoinHandle<(WaitRecv<Task<H>>, T, B)>,
 }
 
@@ -63,9 +63,9 @@ pub(crate) struct Parts<E: Drop, B: Drop, T: Drop, W: Drop, L: Drop> {
     /// And as its dispatcher does.
     pub(crate) decisions: B,
     /// Where its orders are answered.
-    pub(crate) desk: Arc<Desk>,
+    pub(crate) answers: Arc<OrderAnswers>,
     /// And as its worker has that.
-    pub(crate) desk_seat: DeskSeat,
+    pub(crate) replies: OrderReplies,
     /// Sounds where its worker may have something to do.
     pub(crate) wakeup: Arc<Wakeup>,
     /// The table of its hooks.
@@ -119,7 +119,7 @@ fn stop_dispatcher<H: Drop, T: Drop, B: Drop, R: Threads + Wait>(
 fn stop_worker<E: Drop, H: Drop, B: Drop, W: Drop, R: Threads + Wait>(
     rt: &R,
     seat: ItemSeat<W>,
-    worker: JoinHandle<EndBench<E, H, B, W>>,
+    worker: JoinHandle<EndLoop<E, H, B, W>>,
 ) -> E {
     let mut seat = seat;
     put(rt, &mut seat, Item::Stop);
@@ -146,14 +146,14 @@ where
         let mut seat = self.orders.lock(rt);
         match order(rt, &mut seat, command) {
             // The seat is held until the order is counted, so orders have their numbers in the relay's order.
-            Ok(()) => Ok(self.desk.put(rt)),
+            Ok(()) => Ok(self.answers.put(rt)),
             Err(back) => Err(back),
         }
     }
 
     /// Where its orders are answered.
-    pub(crate) fn desk(&self) -> &Desk {
-        &self.desk
+    pub(crate) fn answers(&self) -> &OrderAnswers {
+        &self.answers
     }
 
     /// Hands a hook to its dispatcher; a full relay hands it back.
@@ -194,7 +194,7 @@ where
     pub(crate) fn end<R: Threads + Wait>(self, rt: &R) -> E {
         let ChannelThreads {
             orders,
-            desk: _,
+            answers: _,
             hooks,
             bound: _,
             connections: _,
@@ -265,8 +265,8 @@ where
         own_init,
         book,
         decisions,
-        desk,
-        desk_seat,
+        answers,
+        replies,
         wakeup,
         table,
         connections,
@@ -289,7 +289,7 @@ where
         items,
         tasks: events,
         book,
-        orders: desk_seat,
+        orders: replies,
     };
     let Some(dispatcher) = start_dispatcher::<H, WaitRecv<Task<H>>, T, B, R>(
         rt, alloc, tasks, table, decisions,
@@ -303,7 +303,7 @@ where
         H,
         WaitSend<Task<H>>,
         B,
-        DeskSeat,
+        OrderReplies,
         R,
     >(rt, alloc, own_init, work) else {
         stop_dispatcher(&rt, hooks, dispatcher);
@@ -317,7 +317,7 @@ where
     };
     Ok(ChannelThreads {
         orders: Mutex::new(orders),
-        desk,
+        answers,
         hooks: Mutex::new(hooks),
         bound,
         connections,

@@ -1,6 +1,6 @@
 //! A node: its channels, each with its threads, and the book of its payments.
 
-use crate::asking::{Desk, DeskSeat};
+use crate::asking::{OrderAnswers, OrderReplies};
 use crate::book::{Common, NodeBook, SharedBook};
 use crate::channel::{ChannelThreads, Parts, start};
 use crate::notices::Notices;
@@ -52,8 +52,8 @@ struct Shares<O: Drop, W: Drop> {
     own_init: Box<Message>,
     book: SharedBook<O>,
     decisions: SharedBook<O>,
-    desk: Arc<Desk>,
-    desk_seat: DeskSeat,
+    answers: Arc<OrderAnswers>,
+    replies: OrderReplies,
     wakeup: Arc<Wakeup>,
     connections: Arc<Connections<W>>,
 }
@@ -120,7 +120,7 @@ where
     W: Read + Write + OpenStream + Drop + Send + 'static,
 {
     ghost use Rattle.std.specs.Prelude.{◌≡◌, [], IfOk};
-    ghost use Rattle.ln_switch.specs.Seats as seats;
+    ghost use Rattle.ln_switch.specs.Handles as handles;
     ghost use Rattle.ln_node.specs.Books.{begun_at};
     ghost use Rattle.ln_node.specs.Node.{policy_of, begun_of};
     ghost use Rattle.ln_node.specs.Stored.{BeginsWithAll};
@@ -184,10 +184,10 @@ where
         Ok(Arc::new(alloc, connections)?)
     }
 
-    // The desk of a new channel, as its worker has it.
-    fn desk_seat(&self, desk: Arc<Desk>) -> Result<DeskSeat, AllocError> {
+    // The answers to a new channel's orders, as its worker gives them.
+    fn replies(&self, answers: Arc<OrderAnswers>) -> Result<OrderReplies, AllocError> {
         let notices = Arc::try_clone(&self.common.notices)?;
-        Ok(DeskSeat::new(desk, notices, self.channels.len()))
+        Ok(OrderReplies::new(answers, notices, self.channels.len()))
     }
 
     // The store of a new channel, which is watched.
@@ -205,10 +205,10 @@ where
     fn shares(&self, alloc: Global, end: &NodeLink<K, S>) -> Result<Shares<O, W>, Refusal>
         ensures reach_the_book { IfOk result (λ s. (begun_at s.book ≡ begun_of self.now)
             × (begun_at s.decisions ≡ begun_of self.now)) }
-        ensures asks_by_the_policy { IfOk result (λ s. (seats.policy_of s.book.seat ≡ policy_of self.now)
-            × (seats.policy_of s.decisions.seat ≡ policy_of self.now)) }
-        ensures nothing_was_said { IfOk result (λ s. (seats.said s.book.seat ≡ [])
-            × (seats.said s.decisions.seat ≡ [])) }
+        ensures asks_by_the_policy { IfOk result (λ s. (handles.policy_of s.book.handle ≡ policy_of self.now)
+            × (handles.policy_of s.decisions.handle ≡ policy_of self.now)) }
+        ensures nothing_was_said { IfOk result (λ s. (handles.said s.book.handle ≡ [])
+            × (handles.said s.decisions.handle ≡ [])) }
     {
         let own_init = own_init(alloc)?;
         let wakeup = Arc::try_clone(&self.common.wakeup)?;
@@ -222,14 +222,14 @@ where
             &end.saved.store.observer,
             number,
         )?;
-        let desk = Arc::new(alloc, Desk::new(self.signing))?;
-        let desk_seat = self.desk_seat(Arc::try_clone(&desk)?)?;
+        let answers = Arc::new(alloc, OrderAnswers::new(self.signing))?;
+        let replies = self.replies(Arc::try_clone(&answers)?)?;
         Ok(Shares {
             own_init,
             decisions,
             book,
-            desk,
-            desk_seat,
+            answers,
+            replies,
             wakeup,
             connections,
         })
@@ -255,8 +255,8 @@ where
             own_init,
             book,
             decisions,
-            desk,
-            desk_seat,
+            answers,
+            replies,
             wakeup,
             connections,
         } = shares;
@@ -269,8 +269,8 @@ where
             own_init,
             book,
             decisions,
-            desk,
-            desk_seat,
+            answers,
+            replies,
             wakeup,
             table,
             connections,

@@ -31,7 +31,7 @@ where
     pub fn set_signing(&mut self, signing: Signing) {
         self.signing = signing;
         for channel in &self.channels {
-            channel.desk().set_signing(signing);
+            channel.answers().set_signing(signing);
         }
         self.common.wakeup.ring();
     }
@@ -43,7 +43,7 @@ where
         let Some(channel) = self.channels.get(channel) else {
             return Err(Refusal::NotReady);
         };
-        channel.desk().set_signing(signing);
+        channel.answers().set_signing(signing);
         self.common.wakeup.ring();
         Ok(())
     }

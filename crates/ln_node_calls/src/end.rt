@@ -17,7 +17,7 @@ pub struct End {
     /// Of its channel at its node.
     pub channel: usize,
     /// Of its channel in the row.
-    pub way: usize,
+    pub proxy: usize,
     /// Whether it makes the connections of its channel.
     pub connects: bool,
 }
@@ -27,7 +27,7 @@ pub const A0: End = End {
     number: 0,
     node: 0,
     channel: 0,
-    way: 0,
+    proxy: 0,
     connects: true,
 };
 
@@ -36,7 +36,7 @@ pub const B0: End = End {
     number: 1,
     node: 1,
     channel: 0,
-    way: 0,
+    proxy: 0,
     connects: false,
 };
 
@@ -45,7 +45,7 @@ pub const B1: End = End {
     number: 2,
     node: 1,
     channel: 1,
-    way: 1,
+    proxy: 1,
     connects: true,
 };
 
@@ -54,7 +54,7 @@ pub const C0: End = End {
     number: 3,
     node: 2,
     channel: 0,
-    way: 1,
+    proxy: 1,
     connects: false,
 };
 
@@ -76,13 +76,13 @@ impl End {
     /// The short id of its channel.
     pub fn short_id(self) -> ShortId {
         let [first, second] = SHORT_IDS;
-        if self.way == 0 { first } else { second }
+        if self.proxy == 0 { first } else { second }
     }
 
     /// The funding transaction of its channel.
     pub fn txid(self) -> [u8; 32] {
         let [first, second] = TXIDS;
-        if self.way == 0 { first } else { second }
+        if self.proxy == 0 { first } else { second }
     }
 }
 

@@ -178,7 +178,7 @@ where
             "out" => false,
             _ => return Err(BAD),
         };
-        let left = self.way(end)?.way.left(comes != end.connects);
+        let left = self.proxy(end)?.proxy.left(comes != end.connects);
         left.store(number, Ordering::SeqCst);
         Ok(())
     }
@@ -202,11 +202,11 @@ where
         match (at(words, 0), words.len()) {
             ("cut", 2) => self.cut(end),
             ("part", 2) => {
-                self.way(end)?.way.parted.store(1, Ordering::SeqCst);
+                self.proxy(end)?.proxy.parted.store(1, Ordering::SeqCst);
                 self.cut(end)
             }
             ("join", 2) => {
-                self.way(end)?.way.parted.store(0, Ordering::SeqCst);
+                self.proxy(end)?.proxy.parted.store(0, Ordering::SeqCst);
                 Ok(())
             }
             ("shut", 2) => {

@@ -48,11 +48,11 @@ mod end;
 mod gauge;
 mod lines;
 mod payment;
+mod proxy;
 mod row;
 mod store;
 mod veil;
 mod watch;
-mod way;
 
 use crate::gauge::{Gauged, NoHook, Watch};
 use crate::row::Row;

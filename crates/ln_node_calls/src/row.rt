@@ -3,8 +3,8 @@
 use crate::end::{A0, B0, B1, C0, ENDS, End, config};
 use crate::gauge::{Gauge, Gauged, NoHook};
 use crate::payment::{AMOUNT, SECRET, order, preimage};
-use crate::watch::{counted, is_refused, state_word, told};
-use crate::way::{OpenWay, loopback};
+use crate::proxy::{OpenProxy, loopback};
+use crate::watch::{counted, is_refused, state_word, value_of};
 use ln_bytes::Bytes;
 use ln_channel::Command;
 use ln_demo::{POLICY, fit_spec};
@@ -27,13 +27,13 @@ const LOOKS: u64 = 40_000;
 /// A node with toy keys and a toy onion. Its stores and its tables of hooks are of these kinds.
 pub type ToyNode<S, T> = Node<ToyKeys, S, ToyOnion, NoHook, T>;
 
-/// Three nodes, the ways between them, and the gauges of all ends. Nothing of each before `open`.
+/// Three nodes, the proxies between them, and the gauges of all ends. Nothing of each before `open`.
 #[derive(Drop)]
 pub struct Row<S: Drop, T: Drop, R: Drop> {
     pub rt: R,
     pub alloc: Global,
     pub nodes: Vec<ToyNode<S, T>>,
-    ways: Vec<OpenWay>,
+    proxies: Vec<OpenProxy>,
     gauges: Vec<Arc<Gauge>>,
     /// No connection is lost as long as it is held.
     pub gate: Arc<Mutex<()>>,
@@ -73,7 +73,7 @@ where
             rt,
             alloc,
             nodes: Vec::new(alloc),
-            ways: Vec::new(alloc),
+            proxies: Vec::new(alloc),
             gauges: Vec::new(alloc),
             gate: Arc::new(alloc, Mutex::new(()))?,
             signing: Signing::WhenOrdered,
@@ -86,10 +86,10 @@ where
         Ok(gauge)
     }
 
-    /// The way of an end's channel. 40 where no nodes run.
-    pub fn way(&self, end: End) -> Result<&OpenWay, Refusal> {
-        match self.ways.get(end.way) {
-            Some(way) => Ok(way),
+    /// The proxy of an end's channel. 40 where no nodes run.
+    pub fn proxy(&self, end: End) -> Result<&OpenProxy, Refusal> {
+        match self.proxies.get(end.proxy) {
+            Some(proxy) => Ok(proxy),
             None => Err(Refusal::NotReady),
         }
     }
@@ -113,7 +113,7 @@ where
         Ok(())
     }
 
-    // The channel of an end that listens begins, and a way that leads there.
+    // The channel of an end that listens begins, and a proxy that leads there.
     fn begin_at(&mut self, end: End, accepted: u16) -> Result<(), Refusal> {
         let gauge = gauge_of(self.gauges.as_slice(), end)?;
         let Some(node) = self.nodes.get_mut(end.node) else {
@@ -124,23 +124,24 @@ where
         let config = config(self.alloc, accepted)?;
         let keys = end.keys();
         let at = node.listen(self.rt, self.alloc, keys, config, store, table, loopback())?;
-        let way = OpenWay::new(self.rt, self.alloc, at, &self.gate)?;
-        self.ways.push(way)?;
+        let proxy = OpenProxy::new(self.rt, self.alloc, at, &self.gate)?;
+        self.proxies.push(proxy)?;
         Ok(())
     }
 
     // The channel of an end that connects begins.
     fn connect(&mut self, end: End) -> Result<(), Refusal> {
         let gauge = gauge_of(self.gauges.as_slice(), end)?;
-        let (Some(way), Some(node)) = (self.ways.get(end.way), self.nodes.get_mut(end.node)) else {
+        let (Some(proxy), Some(node)) = (self.proxies.get(end.proxy), self.nodes.get_mut(end.node))
+        else {
             return Err(Refusal::NotReady);
         };
         let store = S::gauged(self.alloc, gauge)?;
         let table = T::gauged(self.alloc, gauge)?;
         let spec = fit_spec(self.alloc, end.txid())?;
         let keys = end.keys();
-        node.connect(self.rt, self.alloc, keys, spec, store, table, way.begin)?;
-        way.way.made.fetch_add(1, Ordering::SeqCst);
+        node.connect(self.rt, self.alloc, keys, spec, store, table, proxy.begin)?;
+        proxy.proxy.made.fetch_add(1, Ordering::SeqCst);
         Ok(())
     }
 
@@ -159,7 +160,7 @@ where
     }
 
     // Orders an end this. A full relay passes it over.
-    fn tell(&self, end: End, command: Command) {
+    fn send_order(&self, end: End, command: Command) {
         match self.node(end) {
             Ok(node) => let_go(node.order(&self.rt, end.channel, command)),
             Err(_) => let_go(command),
@@ -180,7 +181,7 @@ where
             }
             if look % 16 == 0 {
                 for end in ENDS {
-                    self.tell(end, Command::Confirm(end.short_id()));
+                    self.send_order(end, Command::Confirm(end.short_id()));
                 }
             }
             self.look();
@@ -193,8 +194,8 @@ where
         for node in mem::replace(&mut self.nodes, Vec::new(self.alloc)) {
             node.stop(self.rt);
         }
-        for way in mem::replace(&mut self.ways, Vec::new(self.alloc)) {
-            way.stop(&self.rt);
+        for proxy in mem::replace(&mut self.proxies, Vec::new(self.alloc)) {
+            proxy.stop(&self.rt);
         }
     }
 
@@ -202,15 +203,15 @@ where
 
     // Connects a channel whose connections are all over.
     fn mend(&self, end: End) {
-        if let (Ok(node), Ok(way)) = (self.node(end), self.way(end)) {
-            if way.way.is_cut() && node.reconnect(&self.rt, end.channel, way.begin).is_ok() {
-                way.way.made.fetch_add(1, Ordering::SeqCst);
+        if let (Ok(node), Ok(proxy)) = (self.node(end), self.proxy(end)) {
+            if proxy.proxy.is_cut() && node.reconnect(&self.rt, end.channel, proxy.begin).is_ok() {
+                proxy.proxy.made.fetch_add(1, Ordering::SeqCst);
             }
         }
     }
 
     // Counts what has become of a node's channels.
-    fn hear(&self, node: usize) {
+    fn read_notices(&self, node: usize) {
         let Some(it) = self.nodes.get(node) else {
             return;
         };
@@ -266,10 +267,10 @@ where
             return;
         }
         if gauge.shuts.load(Ordering::SeqCst) != 0 {
-            self.tell(end, Command::Shutdown(Bytes::empty(self.alloc)));
+            self.send_order(end, Command::Shutdown(Bytes::empty(self.alloc)));
         }
         if self.signing == Signing::WhenOrdered {
-            self.tell(end, Command::Sign);
+            self.send_order(end, Command::Sign);
         }
     }
 
@@ -278,7 +279,7 @@ where
         self.mend(A0);
         self.mend(B1);
         for node in 0..3 {
-            self.hear(node);
+            self.read_notices(node);
             self.follow(node);
         }
         for end in ENDS {
@@ -322,10 +323,10 @@ where
     }
 
     // What an end's summary tells under this word, or its node's counters; 64 where nothing is told.
-    fn told(&self, end: End, word: &str) -> Result<u64, Refusal> {
+    fn summary_value(&self, end: End, word: &str) -> Result<u64, Refusal> {
         let node = self.node(end)?;
         let summary = node.summary(&self.rt, end.channel)?;
-        match told(&summary, word) {
+        match value_of(&summary, word) {
             Some(told) => Ok(told),
             None => match counted(node.counters(), word) {
                 Some(counted) => Ok(counted),
@@ -368,16 +369,16 @@ where
         match name {
             "usable" => Ok(u64::from(self.is_usable(end))),
             "held" => self.held(end),
-            "lost" => Ok(self.way(end)?.way.over.load(Ordering::SeqCst)),
+            "lost" => Ok(self.proxy(end)?.proxy.over.load(Ordering::SeqCst)),
             "signed" => Ok(
-                self.way(end)?
-                    .way
+                self.proxy(end)?
+                    .proxy
                     .signed(end.connects)
                     .load(Ordering::SeqCst),
             ),
             name => match self.gauge(end)?.count(name) {
                 Some(count) => Ok(count),
-                None => self.told(end, name),
+                None => self.summary_value(end, name),
             },
         }
     }
@@ -482,7 +483,7 @@ where
 
     /// Connects a channel of a node, which is to be refused by this number.
     pub fn reconnect(&self, node: usize, channel: usize, wanted: u16) -> Result<(), Refusal> {
-        let begin = self.way(A0)?.begin;
+        let begin = self.proxy(A0)?.begin;
         let Some(node) = self.nodes.get(node) else {
             return Err(Refusal::NotReady);
         };
@@ -527,14 +528,14 @@ where
         Ok(all)
     }
 
-    // The way of a node's first channel leads to where it listens now.
+    // The proxy of a node's first channel leads to where it listens now.
     fn lead(&self, node: usize) {
         let Some(end) = end_of(node, 0) else {
             return;
         };
-        if let (Ok(it), Ok(way)) = (self.node(end), self.way(end)) {
+        if let (Ok(it), Ok(proxy)) = (self.node(end), self.proxy(end)) {
             if let Some(address) = it.address(0) {
-                *way.way.target.lock(&self.rt) = address;
+                *proxy.proxy.target.lock(&self.rt) = address;
             }
         }
     }

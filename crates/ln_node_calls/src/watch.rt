@@ -28,7 +28,7 @@ fn at_stage(summary: &ChannelSummary, stage: HtlcStage) -> u64 {
 }
 
 /// What a summary tells under this word; none where it tells nothing.
-pub fn told(summary: &ChannelSummary, word: &str) -> Option<u64> {
+pub fn value_of(summary: &ChannelSummary, word: &str) -> Option<u64> {
     let told = match word {
         "balance" => summary.own_balance,
         "peer-balance" => summary.peer_balance,

@@ -12,9 +12,9 @@ use Rattle.ln_node_loops.specs.declared.item.Item.TheVariants as item
 use Rattle.ln_node_loops.specs.Act.{Act}
 use Rattle.ln_node_loops.specs.declared.task.Task.{Task}
 use Rattle.ln_node_loops.specs.Turns.{Turn, Serves, Passes, Obeys, Loads, StaysHalted, Rests, Stand, Step, Leads}
-use Rattle.ln_node_loops.specs.Turns.{Glance, Ran, asks, asked_in, is_idle, FindsNone}
+use Rattle.ln_node_loops.specs.Turns.{LoopState, Ran, asks, asked_in, is_idle, FindsNone}
 use Rattle.ln_node_loops.specs.Turns.{items_of, told, told_in, News, turn_of, events}
-use Rattle.ln_node_loops.specs.Turns.{fresh, last_of, tasks, tasks_of, is_new, load_of, told_behind, says, is_load}
+use Rattle.ln_node_loops.specs.Turns.{fresh, last_of, tasks, tasks_of, is_new, load_of, told_after, says, is_load}
 use Rattle.ln_node_loops.specs.Turns.{may_come}
 use Rattle.ln_node_loops.specs.Turns.{OneTurn, ReloadsIfHalted, drops, OfBook, OfUser, OfWorker}
 use Rattle.ln_node_loops.specs.Turns.{replies, replies_in, Declines}
@@ -267,7 +267,8 @@ module _ {S W H : Type 0} (acts : S → Act → Result (List Output) Refusal →
     (pending : S → List (ℕ × ChannelEvent)) (owes : S → Bool) (seen : S → Option Seen) (contents : W → Option (List ℕ))
     (own_init : Message) (known : List ℕ) where
   -- one turn, whose events were put after the last number so far
-  pub turned : (a b : Glance S W H) (t : Turn W) (last : Option ℕ) (es : List (ℕ × ChannelEvent)) (words : List Saying)
+  pub turned : (a b : LoopState S W H) (t : Turn W) (last : Option ℕ) (es : List (ℕ × ChannelEvent))
+      (words : List Saying)
       (rs : List Reply) (bs : List Bool)
       → Step acts halted pending owes contents own_init known a.stand t b.stand → b.taken ≡ a.taken ++ items_of (t ∷ [])
       → last ≡ a.last → es ≡ told t → b.put ≡ a.put ++ tasks (channel_of (seen b.stand.end)) (fresh last es)
@@ -287,10 +288,10 @@ module _ {S W H : Type 0} (acts : S → Act → Result (List Output) Refusal →
   }
 
   -- a load, after which the events that are pending were put and the book was told of it
-  pub turned-load : (a b : Glance S W H) (answer : Result (Unit {0}) Refusal) (es told : List (ℕ × ChannelEvent))
+  pub turned-load : (a b : LoopState S W H) (answer : Result (Unit {0}) Refusal) (es told : List (ℕ × ChannelEvent))
       (last : Option ℕ)
       → Step acts halted pending owes contents own_init known a.stand (load_of answer es) b.stand → b.taken ≡ a.taken
-      → last ≡ a.last → told ≡ told_behind answer es
+      → last ≡ a.last → told ≡ told_after answer es
       → b.put ≡ a.put ++ tasks (channel_of (seen b.stand.end)) (fresh last told) → b.last ≡ last_of last told
       → b.said ≡ a.said ++ load_words answer (seen b.stand.end) told → b.replied ≡ a.replied → b.allowed ≡ a.allowed
       → ReloadsIfHalted acts halted pending owes seen contents own_init known a b
@@ -315,7 +316,8 @@ module _ {S W H : Type 0} (acts : S → Act → Result (List Output) Refusal →
 module _ {S W H : Type 0} (acts : S → Act → Result (List Output) Refusal → S → Type 0) (halted : S → Bool)
     (pending : S → List (ℕ × ChannelEvent)) (owes : S → Bool) (seen : S → Option Seen) (contents : W → Option (List ℕ))
     (own_init : Message) (known : List ℕ) (empty : List (Item W) → Type 0) where
-  pub ran-none : (b : Bool) (a : Glance S W H) → Ran acts halted pending owes seen contents own_init known empty b a a
+  pub ran-none : (b : Bool) (a : LoopState S W H)
+      → Ran acts halted pending owes seen contents own_init known empty b a a
   ran-none b a = record {
     turns = [];
     words = [];
@@ -330,7 +332,8 @@ module _ {S W H : Type 0} (acts : S → Act → Result (List Output) Refusal →
     idle = tt;
   }
 
-  pub ran-on : (k : Bool) (a b c : Glance S W H) → Ran acts halted pending owes seen contents own_init known empty k a b
+  pub ran-on : (k : Bool) (a b c : LoopState S W H)
+      → Ran acts halted pending owes seen contents own_init known empty k a b
       → Ran acts halted pending owes seen contents own_init known empty false b c
       → Ran acts halted pending owes seen contents own_init known empty k a c
   ran-on k a b c one two = record {
@@ -357,7 +360,7 @@ module _ {S W H : Type 0} (acts : S → Act → Result (List Output) Refusal →
   }
 
   -- one turn, after which others went on
-  pub ran-turn : (k : Bool) (a b c : Glance S W H) (t : Turn W) → may_come k (halted a.stand.end) t ≡ true
+  pub ran-turn : (k : Bool) (a b c : LoopState S W H) (t : Turn W) → may_come k (halted a.stand.end) t ≡ true
       → (is_idle t ≡ true → empty a.taken)
       → OneTurn acts halted pending owes seen contents own_init known a t b
       → Ran acts halted pending owes seen contents own_init known empty (is_load t) b c
@@ -382,14 +385,14 @@ module _ {S W H : Type 0} (acts : S → Act → Result (List Output) Refusal →
     idle = (none, subst (λ l. FindsNone empty l two.turns) one.took two.idle);
   }
 
-  pub ran-one : (k : Bool) (a b : Glance S W H) (t : Turn W) → may_come k (halted a.stand.end) t ≡ true
+  pub ran-one : (k : Bool) (a b : LoopState S W H) (t : Turn W) → may_come k (halted a.stand.end) t ≡ true
       → (is_idle t ≡ true → empty a.taken)
       → OneTurn acts halted pending owes seen contents own_init known a t b
       → Ran acts halted pending owes seen contents own_init known empty k a b
   ran-one k a b t may none one = ran-turn k a b b t may none one (ran-none (is_load t) b)
 
   -- after a halted end was to be loaded an item was taken
-  pub ran-mended : (a b c : Glance S W H) → ReloadsIfHalted acts halted pending owes seen contents own_init known a b
+  pub ran-mended : (a b c : LoopState S W H) → ReloadsIfHalted acts halted pending owes seen contents own_init known a b
       → Ran acts halted pending owes seen contents own_init known empty true b c
       → Ran acts halted pending owes seen contents own_init known empty false a c
   ran-mended a b c (inl none) two = record {
@@ -398,23 +401,23 @@ module _ {S W H : Type 0} (acts : S → Act → Result (List Output) Refusal →
     news = two.news;
     leads = subst
         (λ s. Leads acts halted pending owes seen contents own_init known false s two.turns two.words two.news c.stand)
-        (ap (λ (g : Glance S W H). g.stand) none.1)
+        (ap (λ (g : LoopState S W H). g.stand) none.1)
         (leads-on acts halted pending owes seen contents own_init known b.stand two.turns two.words two.news c.stand
-        (ap (λ (g : Glance S W H). halted g.stand.end) none.1 ∙ none.0) two.leads);
-    took = two.took ∙ ap (λ (g : Glance S W H). g.taken ++ items_of two.turns) none.1;
-    put = two.put ∙ ap (λ (g : Glance S W H). g.put ++ tasks_of g.last two.news) none.1;
-    last = two.last ∙ ap (λ (g : Glance S W H). last_of g.last (told_in two.news)) none.1;
-    spoke = two.spoke ∙ ap (λ (g : Glance S W H). g.said ++ two.words) none.1;
-    replied = two.replied ∙ ap (λ (g : Glance S W H). g.replied ++ replies_in two.news) none.1;
-    allowed = two.allowed ∙ ap (λ (g : Glance S W H). g.allowed ++ asked_in two.turns) none.1;
-    idle = subst (λ (g : Glance S W H). FindsNone empty g.taken two.turns) none.1 two.idle;
+        (ap (λ (g : LoopState S W H). halted g.stand.end) none.1 ∙ none.0) two.leads);
+    took = two.took ∙ ap (λ (g : LoopState S W H). g.taken ++ items_of two.turns) none.1;
+    put = two.put ∙ ap (λ (g : LoopState S W H). g.put ++ tasks_of g.last two.news) none.1;
+    last = two.last ∙ ap (λ (g : LoopState S W H). last_of g.last (told_in two.news)) none.1;
+    spoke = two.spoke ∙ ap (λ (g : LoopState S W H). g.said ++ two.words) none.1;
+    replied = two.replied ∙ ap (λ (g : LoopState S W H). g.replied ++ replies_in two.news) none.1;
+    allowed = two.allowed ∙ ap (λ (g : LoopState S W H). g.allowed ++ asked_in two.turns) none.1;
+    idle = subst (λ (g : LoopState S W H). FindsNone empty g.taken two.turns) none.1 two.idle;
   }
   ran-mended a b c (inr some) two =
       ran-turn false a b c some.0 (loads-come some.0 (halted a.stand.end) some.1) (loads-busy some.0 some.1) some.2
       (subst (λ k. Ran acts halted pending owes seen contents own_init known empty k b c) (sym some.1) two)
 
   -- an item that was served or passed over
-  pub ran-item : (a b : Glance S W H) (served : Bool) (i : Item W) (os : List Output)
+  pub ran-item : (a b : LoopState S W H) (served : Bool) (i : Item W) (os : List Output)
       (answer written : Result (Unit {0}) Refusal) (last : Option ℕ) (next : ℕ)
       → Step acts halted pending owes contents own_init known a.stand (turn_of served i os answer written) b.stand
       → (served ≡ false → os ≡ []) → (served ≡ false → Declines i answer)
@@ -440,7 +443,7 @@ module _ {S W H : Type 0} (acts : S → Act → Result (List Output) Refusal →
       (turned-asks served i os answer written) (asked ∙ sym (append-nil a.allowed)))
 
   -- nothing was taken, put, said, replied or asked
-  pub ran-still : (k : Bool) (a b : Glance S W H) → b.stand ≡ a.stand → b.last ≡ a.last → b.taken ≡ a.taken
+  pub ran-still : (k : Bool) (a b : LoopState S W H) → b.stand ≡ a.stand → b.last ≡ a.last → b.taken ≡ a.taken
       → b.put ≡ a.put → b.said ≡ a.said → b.replied ≡ a.replied → b.allowed ≡ a.allowed
       → Ran acts halted pending owes seen contents own_init known empty k a b
   ran-still k a b stand last taken put said replied allowed = record {
@@ -458,7 +461,7 @@ module _ {S W H : Type 0} (acts : S → Act → Result (List Output) Refusal →
   }
 
   -- it asked whether it is to sign by itself, and didn't sign
-  pub ran-rested : (a b : Glance S W H) (told due : Bool) → due ≡ (told && owes a.stand.end) → due ≡ false
+  pub ran-rested : (a b : LoopState S W H) (told due : Bool) → due ≡ (told && owes a.stand.end) → due ≡ false
       → b.stand ≡ a.stand → b.last ≡ a.last → b.taken ≡ a.taken → b.put ≡ a.put → b.said ≡ a.said
       → b.replied ≡ a.replied → b.allowed ≡ a.allowed ++ told ∷ [] → empty a.taken
       → Ran acts halted pending owes seen contents own_init known empty false a b
@@ -474,7 +477,7 @@ module _ {S W H : Type 0} (acts : S → Act → Result (List Output) Refusal →
       })
 
   -- a signature that no book gave
-  pub ran-signed : (a b : Glance S W H) (told due : Bool) (os : List Output)
+  pub ran-signed : (a b : LoopState S W H) (told due : Bool) (os : List Output)
       (answer written : Result (Unit {0}) Refusal) (last : Option ℕ)
       → due ≡ (told && owes a.stand.end) → due ≡ true
       → (owes a.stand.end ≡ true
@@ -494,7 +497,7 @@ module _ {S W H : Type 0} (acts : S → Act → Result (List Output) Refusal →
       (ap (λ b. b ∷ []) both.0) allowed)
 
   -- a command of the book
-  pub ran-asked : (a b : Glance S W H) (channel : List ℕ) (next : ℕ) (c : Command) (os : List Output)
+  pub ran-asked : (a b : LoopState S W H) (channel : List ℕ) (next : ℕ) (c : Command) (os : List Output)
       (answer written : Result (Unit {0}) Refusal) (last : Option ℕ) (one two : List Saying)
       → Step acts halted pending owes contents own_init known a.stand (Obeys OfBook c os answer written) b.stand
       → b.taken ≡ a.taken → last ≡ a.last
@@ -526,7 +529,7 @@ module _ {S W H : Type 0} (acts : S → Act → Result (List Output) Refusal →
 pub ran-there : {S W H P : Type 0} (acts : S → Act → Result (List Output) Refusal → S → Type 0) (halted : S → Bool)
     (pending : S → List (ℕ × ChannelEvent)) (owes : S → Bool) (seen : S → Option Seen) (contents : W → Option (List ℕ))
     (own_init : Message) (known : List ℕ) (empty : P → List (Item W) → Type 0) (p q : P) (k : Bool)
-    (a b : Glance S W H) → p ≡ q → Ran acts halted pending owes seen contents own_init known (empty p) k a b
+    (a b : LoopState S W H) → p ≡ q → Ran acts halted pending owes seen contents own_init known (empty p) k a b
     → Ran acts halted pending owes seen contents own_init known (empty q) k a b
 ran-there acts halted pending owes seen contents own_init known empty p q k a b is ran =
     subst (λ x. Ran acts halted pending owes seen contents own_init known (empty x) k a b) is ran

@@ -58,7 +58,7 @@ pub record Reads {J : Type 0} (before after : Option (List ℕ)) (why : Result (
   pub relayed : put' ≡ put ++ reads messages
 
 -- and Joined before them, and Broken behind
-pub record Hung {J : Type 0} (before after : Option (List ℕ)) (why : Result (Unit {0}) Fault) (joined : J)
+pub record HandsOn {J : Type 0} (before after : Option (List ℕ)) (why : Result (Unit {0}) Fault) (joined : J)
     (put put' : List (Item J)) : Type 0 where
   pub between : List (Item J)
   pub reads_all : Reads before after why [] between

@@ -76,9 +76,9 @@ load_of (Ok u) es = Loads es
 load_of (Err r) es = StaysHalted r
 
 -- the events that are pending after a load; none after one that is refused
-abbrev pub told_behind : Result (Unit {0}) Refusal → List (ℕ × ChannelEvent) → List (ℕ × ChannelEvent)
-told_behind (Ok u) es = es
-told_behind (Err r) es = []
+abbrev pub told_after : Result (Unit {0}) Refusal → List (ℕ × ChannelEvent) → List (ℕ × ChannelEvent)
+told_after (Ok u) es = es
+told_after (Err r) es = []
 
 -- the item of a turn, with what greets the peer in the place of its writer
 abbrev pub greets : {W : Type 0} → Message → Item W → Item Message
@@ -351,7 +351,7 @@ AreEvents (task.Stop ∷ ts) es = ⊥
 
 -- what it stands for, the last number that it has put, what its seats have taken and put, what it has said to the book,
 -- what it has replied to orders, and what it was told as it asked whether it is to sign by itself
-pub record Glance (S W H : Type 0) : Type 0 where
+pub record LoopState (S W H : Type 0) : Type 0 where
   pub stand : Stand S
   pub last : Option ℕ
   pub taken : List (Item W)
@@ -367,7 +367,7 @@ HasStopped {W} taken = (before : List (Item W)) × (taken ≡ before ++ item.Sto
 module _ {S W H : Type 0} (acts : S → Act → Result (List Output) Refusal → S → Type 0) (halted : S → Bool)
     (pending : S → List (ℕ × ChannelEvent)) (owes : S → Bool) (seen : S → Option Seen) (contents : W → Option (List ℕ))
     (own_init : Message) (known : List ℕ) where
-  pub record OneTurn (a : Glance S W H) (t : Turn W) (b : Glance S W H) : Type 0 where
+  pub record OneTurn (a : LoopState S W H) (t : Turn W) (b : LoopState S W H) : Type 0 where
     pub step : Step acts halted pending owes contents own_init known a.stand t b.stand
     pub took : b.taken ≡ a.taken ++ items_of (t ∷ [])
     pub put : b.put ≡ a.put ++ tasks (channel_of (seen b.stand.end)) (fresh a.last (told t))
@@ -377,7 +377,7 @@ module _ {S W H : Type 0} (acts : S → Act → Result (List Output) Refusal →
     pub allowed : b.allowed ≡ a.allowed ++ asks t
 
   -- A halted end was to be loaded: it hadn't halted, and nothing was done; or its load was tried.
-  abbrev pub ReloadsIfHalted : Glance S W H → Glance S W H → Type 0
+  abbrev pub ReloadsIfHalted : LoopState S W H → LoopState S W H → Type 0
   ReloadsIfHalted a b =
       ((halted a.stand.end ≡ false) × (b ≡ a))
       ⊎ ((t : Turn W) × (is_load t ≡ true) × OneTurn a t b)
@@ -385,10 +385,11 @@ module _ {S W H : Type 0} (acts : S → Act → Result (List Output) Refusal →
 module _ {S W H : Type 0} (acts : S → Act → Result (List Output) Refusal → S → Type 0) (halted : S → Bool)
     (pending : S → List (ℕ × ChannelEvent)) (owes : S → Bool) (seen : S → Option Seen) (contents : W → Option (List ℕ))
     (own_init : Message) (known : List ℕ) (empty : List (Item W) → Type 0) where
-  -- Turns led from one glance to the other: their items are those that were taken, in order; put were, once each, by
+  -- Turns led from one state of the loop to the other: their items are those that were taken, in order; put were, once
+  -- each, by
   -- channel and number, the events that they told of; said was to the book what they owe it; replied was to each
   -- order, in their order; and it signed by itself where it was told that it is to, with nothing in its relay.
-  pub record Ran (tried : Bool) (a b : Glance S W H) : Type 0 where
+  pub record Ran (tried : Bool) (a b : LoopState S W H) : Type 0 where
     pub turns : List (Turn W)
     pub words : List Saying
     pub news : List News
@@ -403,8 +404,8 @@ module _ {S W H : Type 0} (acts : S → Act → Result (List Output) Refusal →
 
   -- The book was told what has become of HTLCs by the events that were pending at first, and which payments the end
   -- takes; the events were put; and then turns led on, until Stop was taken.
-  pub record Began (a b : Glance S W H) : Type 0 where
-    pub mid : Glance S W H
+  pub record Began (a b : LoopState S W H) : Type 0 where
+    pub mid : LoopState S W H
     pub same_stand : mid.stand ≡ a.stand
     pub took_nothing : mid.taken ≡ a.taken
     pub replied_nothing : mid.replied ≡ a.replied

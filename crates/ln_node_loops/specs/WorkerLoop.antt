@@ -5,17 +5,17 @@ use Rattle.ln_node_loops.specs.declared.task.Task.{Task}
 use Rattle.ln_node_loops.specs.declared.rounds.WorkerLoop.{WorkerLoop}
 use Rattle.ln_switch.specs.declared.saying.Saying.{Saying}
 use Rattle.ln_node_loops.specs.Orders.{Reply}
-use Rattle.ln_node_loops.specs.Turns.{Glance}
+use Rattle.ln_node_loops.specs.Turns.{LoopState}
 use Rattle.ln_node_loops.specs.Worker.{stand}
 
 -- how many loads in a row were refused, up to ten, behind one more that was tried where the end had halted
-abbrev pub refused_behind : Bool → ℕ → ℕ
-refused_behind halted before = if halted then (if nat_lt before 10 then before + 1 else before) else 0
+abbrev pub refused_after : Bool → ℕ → ℕ
+refused_after halted before = if halted then (if nat_lt before 10 then before + 1 else before) else 0
 
 module _ {E W I T B A S H : Type 0} (state : E → S) (contents : W → Option (List ℕ)) (taken : I → List (Item W))
     (put : T → List (Task H)) (said : B → List Saying) (replied : A → List Reply) (allowed : A → List Bool) where
-  abbrev pub glance : WorkerLoop E W I T B A → Glance S W H
-  glance b = record {
+  abbrev pub loop_state : WorkerLoop E W I T B A → LoopState S W H
+  loop_state b = record {
     stand = stand state contents b.worker;
     last = b.worker.last;
     taken = taken b.items;

@@ -9,8 +9,8 @@ use ln_msgs::Refusal;
 use std::alloc::Global;
 use std::sync::Wait;
 
-/// A seat at the book of a node, by which one thread of a channel reaches it. A contract sees all that was said through
-/// it. The book is behind a lock that is held for one call, so what it holds in between isn't said.
+/// A handle of the book of a node, by which one thread of a channel reaches it. A contract sees all that was said
+/// through it. The book is behind a lock that is held for one call, so what it holds in between isn't said.
 pub trait Books {
     ghost use Rattle.std.specs.Prelude.{◌≡◌, ◌++◌, ◌∷◌, [], List, OnOk, OnErr};
     ghost use Rattle.ln_switch.specs.declared.saying.Saying.{Saying};

@@ -86,7 +86,7 @@ fn dispatch<H: Drop, T: Table<H>, B: Books, R: Wait>(
 }
 
 /// Serves the items of a dispatcher's relay until `Stop`, in order: calls the hooks once on each event and hands what
-/// they say to the book, registers each hook. Gives its seat, its table and its seat at the book back. It waits where
+/// they say to the book, registers each hook. Gives its seat, its table and its handle of the book back. It waits where
 /// there is no item, and tries again where there is no memory.
 pub fn dispatch_loop<H, S, T, B, R>(rt: &R, alloc: Global, seat: S, table: T, book: B) -> (S, T, B)
 where

@@ -12,7 +12,7 @@ ghost use Rattle.ln_relay.specs.Position.{IsMergeOfAll, Position, WasEmpty};
 ghost use Rattle.ln_node_loops.specs.declared.task.Task.{Task};
 ghost use Rattle.ln_node_loops.specs.Served.{events_in, Begins};
 ghost use Rattle.ln_switch.specs.declared.saying.Saying.{Saying};
-ghost use Rattle.ln_node_loops.specs.Turns.{Glance, Began, told, AreEvents, Stand, Turn, Leads, News};
+ghost use Rattle.ln_node_loops.specs.Turns.{LoopState, Began, told, AreEvents, Stand, Turn, Leads, News};
 ghost use Rattle.ln_node_loops.specs.Turns.{cuts_off, JoinNone, IsCutOff, items_of as items_in};
 ghost use Rattle.ln_node_loops.specs.Course.{segment, next_of, Tells};
 ghost use Rattle.ln_node_loops.specs.Orders.{Reply, AreRepliesTo, orders_in};
@@ -40,7 +40,7 @@ pub fn hooks_follow<H: Drop>()
 /// later than after those that were told before, then exactly these events are put for its dispatcher: each once, in
 /// order, none left out and none else.
 pub fn every_event_is_put<E: End + Drop, W: Closes + Drop, I: Receives<Item<W>> + Drop, H: Drop>()
-    ensures { (own_init : Message) (known : List ℕ) (place : Position I.Relay) (a b : Glance E.State W H)
+    ensures { (own_init : Message) (known : List ℕ) (place : Position I.Relay) (a b : LoopState E.State W H)
         (began : Began E.acts E.halted E.pending E.owes E.seen W.contents own_init known (WasEmpty place) a b)
         (event : ℕ → ChannelEvent) (first end : ℕ)
         → Tells event first (next_of first a.last) (E.pending a.stand.end ∷ map told began.ran.turns) end
@@ -56,7 +56,7 @@ pub fn every_order_is_replied_to<
     I: Receives<Item<W>> + Drop,
     H: Drop,
 >()
-    ensures { (own_init : Message) (known : List ℕ) (place : Position I.Relay) (a b : Glance E.State W H)
+    ensures { (own_init : Message) (known : List ℕ) (place : Position I.Relay) (a b : LoopState E.State W H)
         (began : Began E.acts E.halted E.pending E.owes E.seen W.contents own_init known (WasEmpty place) a b)
         → (new : List Reply) × (b.replied ≡ a.replied ++ new)
         × AreRepliesTo E.acts E.seen (orders_in (items_in began.ran.turns)) new }

@@ -4,7 +4,7 @@ ghost use Rattle.std.specs.Prelude.{◌≡◌, ◌++◌, ◌∷◌, [], ◌≤�
 ghost use Rattle.std.specs.Io.KnownBytes.{Consumes, IsAtEnd};
 ghost use Rattle.byteorder.specs.Endian.{big_bytes};
 ghost use Rattle.ln_msgs.specs.Pings.CountedView.{inner_of};
-ghost use Rattle.ln_node_loops.specs.Reads.{Reads, Hung, reads, Fills, Finds};
+ghost use Rattle.ln_node_loops.specs.Reads.{Reads, HandsOn, reads, Fills, Finds};
 
 use crate::item::Item;
 use byteorder::{BigEndian, ByteOrder};
@@ -103,7 +103,7 @@ fn read_message<T: Read>(alloc: Global, socket: &mut Counted<T>) -> Result<Optio
 }
 
 // Puts what is heard, until nothing more is. A frame is read once the message before it was put.
-fn hear_all<T: Read, W: Drop, S: Sends<Item<W>>, R: Wait>(
+fn read_all<T: Read, W: Drop, S: Sends<Item<W>>, R: Wait>(
     rt: &R,
     alloc: Global,
     socket: &mut Counted<T>,
@@ -140,12 +140,12 @@ pub fn reader_loop<T: Read, W: Drop, S: Sends<Item<W>>, R: Wait>(
     writer: W,
     seat: S,
 ) -> (S, Result<(), Fault>)
-    ensures hands_on_what_came { Hung (T.remaining (inner_of socket.old)) (T.remaining (inner_of socket.new)) result.1
-        writer (S.put seat) (S.put result.0) }
+    ensures hands_on_what_came { HandsOn (T.remaining (inner_of socket.old)) (T.remaining (inner_of socket.new))
+        result.1 writer (S.put seat) (S.put result.0) }
 {
     let mut seat = seat;
     put(rt, &mut seat, Item::Joined(writer));
-    let end = hear_all(rt, alloc, socket, &mut seat);
+    let end = read_all(rt, alloc, socket, &mut seat);
     put(rt, &mut seat, Item::Broken);
     (seat, end)
 }

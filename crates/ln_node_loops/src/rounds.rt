@@ -7,7 +7,7 @@ ghost use Rattle.ln_node_loops.specs.Turns.{tasks, drops};
 ghost use Rattle.ln_switch.specs.Seen.{channel_of};
 ghost use Rattle.ln_node_loops.specs.Owed.{kept_if, settled_at, owed, load_words};
 ghost use Rattle.ln_node_loops.specs.declared.item.Item.TheVariants as item;
-ghost use Rattle.ln_node_loops.specs.WorkerLoop.{glance, refused_behind};
+ghost use Rattle.ln_node_loops.specs.WorkerLoop.{loop_state, refused_after};
 ghost use Rattle.ln_node_loops.specs.Orders.{subject_in, reply_of, replies_to};
 
 use crate::books::ReadsEnds;
@@ -40,7 +40,7 @@ pub struct WorkerLoop<E: Drop, W: Drop, I: Drop, T: Drop, B: Drop, A: Drop> {
     pub items: I,
     /// A sender's seat of its dispatcher's relay.
     pub tasks: T,
-    /// A seat at the book.
+    /// A handle of the book.
     pub book: B,
     /// Where it replies to orders, and learns whether it is to sign by itself.
     pub orders: A,
@@ -270,8 +270,8 @@ fn note<E: End + Drop, W: Drop, B: ReadsEnds<E>, R: Wait>(
     ensures { B.said book.new ≡ B.said book.old }
 {
     note_one::<E, B, R>(rt, book, refused(answer));
-    let not_greeted = awaited && worker.phase == Phase::Unconnected;
-    note_one::<E, B, R>(rt, book, not_greeted.then_some(Notice::NoInit));
+    let no_init = awaited && worker.phase == Phase::Unconnected;
+    note_one::<E, B, R>(rt, book, no_init.then_some(Notice::NoInit));
     let has_halted = !halted && worker.end.is_halted();
     note_one::<E, B, R>(rt, book, has_halted.then_some(Notice::Halted));
 }
@@ -354,7 +354,7 @@ where
 {
     // How many loads in a row were refused, up to ten, where so many were before.
     fn refused(&self, before: u64) -> u64
-        ensures { result ≡ refused_behind (E.halted (E.state self.now.worker.end)) before }
+        ensures { result ≡ refused_after (E.halted (E.state self.now.worker.end)) before }
     {
         let halted = self.worker.end.is_halted();
         if halted && before < 10 {
@@ -388,8 +388,8 @@ where
         T: Sends<Task<H>>,
         ensures ran { Ran E.acts E.halted E.pending E.owes E.seen W.contents own_init.now known.now
             (WasEmpty (I.position self.old.items)) true
-            (glance E.state W.contents I.taken T.put B.said A.replied A.allowed self.old)
-            (glance E.state W.contents I.taken T.put B.said A.replied A.allowed self.new) }
+            (loop_state E.state W.contents I.taken T.put B.said A.replied A.allowed self.old)
+            (loop_state E.state W.contents I.taken T.put B.said A.replied A.allowed self.new) }
         ensures stops { result ≡ true → HasStopped (I.taken self.new.items) }
         ensures position_stays { I.position self.new.items ≡ I.position self.old.items }
         ensures was_empty { busy.new ≡ false → WasEmpty (I.position self.old.items) (I.taken self.new.items) }
@@ -445,8 +445,8 @@ where
         T: Sends<Task<H>>,
         ensures ran { Ran E.acts E.halted E.pending E.owes E.seen W.contents own_init.now known.now
             (WasEmpty (I.position self.old.items)) false
-            (glance E.state W.contents I.taken T.put B.said A.replied A.allowed self.old)
-            (glance E.state W.contents I.taken T.put B.said A.replied A.allowed self.new) }
+            (loop_state E.state W.contents I.taken T.put B.said A.replied A.allowed self.old)
+            (loop_state E.state W.contents I.taken T.put B.said A.replied A.allowed self.new) }
         ensures takes_no_item { self.new.items ≡ self.old.items }
         ensures stays_busy { busy.new ≡ false → busy.old ≡ false }
     {
@@ -510,8 +510,8 @@ where
         requires was_empty { busy.old ≡ false → WasEmpty (I.position self.old.items) (I.taken self.old.items) }
         ensures ran { Ran E.acts E.halted E.pending E.owes E.seen W.contents own_init.now known.now
             (WasEmpty (I.position self.old.items)) false
-            (glance E.state W.contents I.taken T.put B.said A.replied A.allowed self.old)
-            (glance E.state W.contents I.taken T.put B.said A.replied A.allowed self.new) }
+            (loop_state E.state W.contents I.taken T.put B.said A.replied A.allowed self.old)
+            (loop_state E.state W.contents I.taken T.put B.said A.replied A.allowed self.new) }
         ensures takes_no_item { self.new.items ≡ self.old.items }
     {
         if *busy {
@@ -560,8 +560,8 @@ where
     where
         T: Sends<Task<H>>,
         ensures reloads { ReloadsIfHalted E.acts E.halted E.pending E.owes E.seen W.contents own_init.now known.now
-            (glance E.state W.contents I.taken T.put B.said A.replied A.allowed self.old)
-            (glance E.state W.contents I.taken T.put B.said A.replied A.allowed self.new) }
+            (loop_state E.state W.contents I.taken T.put B.said A.replied A.allowed self.old)
+            (loop_state E.state W.contents I.taken T.put B.said A.replied A.allowed self.new) }
         ensures takes_no_item { self.new.items ≡ self.old.items }
     {
         if !self.worker.end.is_halted() {
@@ -615,8 +615,8 @@ where
     R: Wait,
     ensures serves_all_and_tells_all { Began E.acts E.halted E.pending E.owes E.seen W.contents own_init.now known.now
         (WasEmpty (I.position work.items))
-        (glance E.state W.contents I.taken T.put B.said A.replied A.allowed work)
-        (glance E.state W.contents I.taken T.put B.said A.replied A.allowed result) }
+        (loop_state E.state W.contents I.taken T.put B.said A.replied A.allowed work)
+        (loop_state E.state W.contents I.taken T.put B.said A.replied A.allowed result) }
 {
     let mut work = work;
     let told = work.worker.pending(rt, alloc);

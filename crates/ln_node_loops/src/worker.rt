@@ -91,8 +91,8 @@ fn init_in(message: &Message) -> Option<&Init>
     }
 }
 
-// How far a connection is behind the peer's first message.
-fn greeted(message: &Message, known: &[u16]) -> Phase
+// How far a connection is after the peer's first message.
+fn phase_after(message: &Message, known: &[u16]) -> Phase
     ensures { Greets known.now (init_in message.now) result }
 {
     match init_in(message) {
@@ -134,7 +134,7 @@ impl<E: End + Drop, W: Closes + Drop> Worker<E, W> {
     ghost use Rattle.std.specs.Prelude.{◌≡◌, None, Option, List, ℕ, Bool, Ok, Err, [], true, false};
     ghost use Rattle.ln_node_loops.specs.Worker.{stand};
     ghost use Rattle.ln_node_loops.specs.Phase.{Hears, kept_connection};
-    ghost use Rattle.ln_node_loops.specs.Turns.{Leaves, Step, turn_of, load_of, told_behind, Obeys, Giver, MayGive};
+    ghost use Rattle.ln_node_loops.specs.Turns.{Leaves, Step, turn_of, load_of, told_after, Obeys, Giver, MayGive};
     ghost use Rattle.ln_node_loops.specs.Turns.{Declines};
 
     /// An end without a connection, none of whose events was put. Takes no memory.
@@ -225,7 +225,7 @@ impl<E: End + Drop, W: Closes + Drop> Worker<E, W> {
     {
         self.drop_writer_if_closed();
         if self.phase == Phase::AwaitsInit {
-            match greeted(message, known) {
+            match phase_after(message, known) {
                 Phase::Open => self.phase = Phase::Open,
                 _ => self.close_connection(),
             }
@@ -375,7 +375,7 @@ impl<E: End + Drop, W: Closes + Drop> Worker<E, W> {
         alloc: Global,
         answer: Result<(), Refusal>,
     ) -> Vec<(u64, ChannelEvent)>
-        ensures { result.items ≡ told_behind answer (E.pending (E.state self.now.end)) }
+        ensures { result.items ≡ told_after answer (E.pending (E.state self.now.end)) }
     {
         match answer {
             Ok(()) => self.pending(rt, alloc),

@@ -134,7 +134,7 @@ module _ (id_of : ℕ → List ℕ) (h : Incoming) (d i : ℕ) where
   covered_then s t fit (may.Resumes c e event m turn done g book) =
       covered_goes c e turn.end s t fit g (noted_shift (command.Resume event m) e turn done)
   covered_then s t fit (may.Halts c g halted book) = covered_lost _ s t g
-  covered_then s t fit (may.Falls c e told is awake tells g halted book) = covered_lost _ s t g
+  covered_then s t fit (may.Disconnects c e told is awake tells g halted book) = covered_lost _ s t g
   covered_then s t fit (may.Restarts es g none ends book) = covered_lost _ s t g
 
   pub covered_stays : (s : Snapshot) (ts : List Snapshot) → AreFit id_of s → AreMoments id_of s ts → At s

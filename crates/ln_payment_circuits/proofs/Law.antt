@@ -70,7 +70,8 @@ use Rattle.ln_payment_circuits.proofs.Waiting.{waiting_ids}
 use Rattle.ln_payment_circuits.proofs.Entries.{is_same, kind_of}
 use Rattle.ln_payment_circuits.proofs.OutgoingLegs.{AreBack, IsIncoming}
 use Rattle.ln_payment_circuits.proofs.Due.{IsDueBy, Forgets, Offers, Removes, due_by, forgets_so}
-use Rattle.ln_payment_circuits.proofs.Scenes.{Scene, HavePayments, links_go, offered, removed, falls, settles, tells}
+use Rattle.ln_payment_circuits.proofs.Scenes.{Scene, HavePayments, links_go, offered, removed, disconnects}
+use Rattle.ln_payment_circuits.proofs.Scenes.{settles, tells}
 use Rattle.ln_payment_circuits.proofs.Scenes.{restart}
 use Rattle.ln_payment_circuits.proofs.Scenes as scenes
 use Rattle.ln_payment_circuits.proofs.Answers.{decided, decided_book, add_refused, add_left, removal_refused}
@@ -593,7 +594,7 @@ module _ (id_of : ℕ → List ℕ) (one : HasOwnIds id_of) where
           alike = joined_alike (scene_of t) (decisions_lost (is_of c) s t g) (λ y. subst (IsIn y) book);
         }
 
-    -- ---- links halt, fall, and come back
+    -- ---- links halt, disconnect, and come back
 
     halts_at : (c : ℕ) → Loses (is_of c) s t → ((d : ℕ) → t.halted d ≡ ((d == c) || s.halted d)) → t.book ≡ s.book
         → IsKept id_of t
@@ -604,13 +605,13 @@ module _ (id_of : ℕ → List ℕ) (one : HasOwnIds id_of) where
       alike = alike_by (scene_of s) (scene_of t) (decisions_lost (is_of c) s t g) (old_same s.book t.book book) k.alike;
     }
 
-    falls_at : AreFit id_of t → (c : ℕ) (e : End) (told : KeptState) → s.ends c ≡ Some e → s.halted c ≡ false
+    disconnects_at : AreFit id_of t → (c : ℕ) (e : End) (told : KeptState) → s.ends c ≡ Some e → s.halted c ≡ false
         → Tells (id_of c) (end_dropped e) s.book told → Loses (is_of c) s t → ((d : ℕ) → t.halted d ≡ s.halted d)
         → t.book ≡ map (htlc_kept (id_of c) told) s.book → IsKept id_of t
-    falls_at fit_now c e told is awake tells g now book = record {
+    disconnects_at fit_now c e told is awake tells g now book = record {
       tidy = lost_tidy (is_of c) g;
       paid = lost_paid (is_of c) g;
-      payments = falls id_of one (scene_of s) (scene_of t) c told (drops (is_of c) s t fit.fit g) now awake book
+      payments = disconnects id_of one (scene_of s) (scene_of t) c told (drops (is_of c) s t fit.fit g) now awake book
           (λ i lt. ap (λ o. is_uncovered (course_at i (option_map side_of o))) is
           ∙ covered e (fit.fit c e is) i (sym (ap (λ n. nat_le n i) tells.next) ∙ lt))
           (λ o i le a. gone e (fit.fit c e is) o i (sym (ap (λ n. nat_le n i) tells.next) ∙ le)
@@ -754,7 +755,8 @@ module _ (id_of : ℕ → List ℕ) (one : HasOwnIds id_of) where
         resumes c e turn.end g (Notes (command.Resume event m) n.0 n.1) event m
         (resumes_so event m e.ledger turn.end.ledger n.1) n.0 book
     kept now (may.Halts c g halted book) = halts_at c g halted book
-    kept now (may.Falls c e told is awake tells g halted book) = falls_at now c e told is awake tells g halted book
+    kept now (may.Disconnects c e told is awake tells g halted book) =
+        disconnects_at now c e told is awake tells g halted book
     kept now (may.Restarts es g none ends book) = restarts_all now es g none ends book
 
   -- ---- one after the other

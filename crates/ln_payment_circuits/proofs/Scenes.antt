@@ -293,8 +293,8 @@ module _ (id_of : ℕ → List ℕ) where
       (gone : (o : List ℕ × ℕ) (i : ℕ) → nat_le told.next i ≡ true → HasAddAt o i (t.links.sides c) → ⊥)
       (open_still : (x : Htlc) (i : ℕ) → IsIn x s.book → x.key ≡ key_at id_of c i → is_among i told.removes ≡ false
       → removal_at i (t.links.sides c) ≡ NoRemoval) where
-    pub falls : HavePayments s → HavePayments t
-    falls k h = cases e.outgoing refl
+    pub disconnects : HavePayments s → HavePayments t
+    disconnects k h = cases e.outgoing refl
       where
         p : Payment
         p = (k h).0

@@ -144,7 +144,7 @@ pub data Happens (id_of : ℕ → List ℕ) (s t : Snapshot) : Type 0 where
   Halts : (c : ℕ) → Loses (is_of c) s t → ((d : ℕ) → t.halted d ≡ ((d == c) || s.halted d)) → t.book ≡ s.book
       → Happens id_of s t
   -- a link that works loses its connection, and the book is told what it has kept
-  Falls : (c : ℕ) (e : End) (told : KeptState) → s.ends c ≡ Some e → s.halted c ≡ false
+  Disconnects : (c : ℕ) (e : End) (told : KeptState) → s.ends c ≡ Some e → s.halted c ≡ false
       → Tells (id_of c) (end_dropped e) s.book told → Loses (is_of c) s t → ((d : ℕ) → t.halted d ≡ s.halted d)
       → t.book ≡ map (htlc_kept (id_of c) told) s.book → Happens id_of s t
   -- the node stops and comes back: each link has lost its connection, and the book is read off the ends

@@ -3,7 +3,7 @@ use Rattle.std.proofs.Common.{◌≡◌, ◌≢◌, ◌⊎◌, ℕ, List, [], �
 use Rattle.ln_msgs.specs.declared.refusals.refusal.Refusal.{Refusal}
 use Rattle.ln_msgs.specs.declared.refusals.refusal.Refusal.TheVariants as refusal
 use Rattle.ln_keys.specs.declared.toy_keys.ToyKeys.{ToyKeys}
-use Rattle.ln_world_dispatch.specs.Seated.{Answers}
+use Rattle.ln_world_dispatch.specs.Slots.{Answers}
 use Rattle.ln_world.specs.declared.step.Step.TheVariants as step
 use Rattle.ln_world.specs.World.{World, empty, happens, SomeMayFail}
 use Rattle.ln_world.specs.Hooked.{verdict_in, answered}

@@ -13,7 +13,7 @@ use Rattle.ln_msgs.specs.declared.refusals.refusal.Refusal.TheVariants as refusa
 use Rattle.ln_hooks.specs.declared.event.ChannelEvent.{ChannelEvent}
 use Rattle.ln_hooks.specs.declared.verdict.Verdict.{Verdict}
 use Rattle.ln_world_channels.specs.declared.line.Line.{Line}
-use Rattle.ln_world_dispatch.specs.Seated.{Answers, Tables, Stand}
+use Rattle.ln_world_dispatch.specs.Slots.{Answers, Tables, Stand}
 use Rattle.ln_world_dispatch.specs.World.{World as Dispatchers}
 use Rattle.ln_world_dispatch.specs.World as dispatchers
 use Rattle.ln_world.specs.declared.node.NodeBook.{NodeBook}

@@ -10,7 +10,7 @@ use Rattle.ln_keys.specs.declared.toy_keys.ToyKeys.{ToyKeys}
 use Rattle.ln_hooks.specs.declared.event.ChannelEvent.{ChannelEvent}
 use Rattle.ln_hooks.specs.declared.verdict.Verdict.{Verdict}
 use Rattle.ln_world_dispatch.specs.declared.step.Step.{Step as DispatchStep}
-use Rattle.ln_world_dispatch.specs.Seated.{Tables}
+use Rattle.ln_world_dispatch.specs.Slots.{Tables}
 use Rattle.ln_world_dispatch.specs.World.{World as Dispatchers}
 use Rattle.ln_world_dispatch.specs.World as dispatchers
 use Rattle.ln_world_dispatch.proofs.Restarting.{as_many_tables}

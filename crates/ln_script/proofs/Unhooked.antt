@@ -6,7 +6,7 @@ use Rattle.ln_hooks.specs.declared.event.ChannelEvent.{ChannelEvent}
 use Rattle.ln_hooks.specs.declared.verdict.Verdict.{Verdict}
 use Rattle.ln_hooks.specs.declared.verdict.Verdict.TheVariants.{Continue}
 use Rattle.ln_world_dispatch.specs.declared.step.Step.{Step as DispatchStep}
-use Rattle.ln_world_dispatch.specs.Seated.{Answers}
+use Rattle.ln_world_dispatch.specs.Slots.{Answers}
 use Rattle.ln_world_dispatch.specs.World.{World as Dispatchers}
 use Rattle.ln_world_dispatch.specs.World as dispatchers
 use Rattle.ln_world_dispatch.specs.Hooked as dispatchers_hooked

@@ -12,7 +12,7 @@ use Rattle.ln_hooks.specs.declared.verdict.Verdict.TheVariants.{Continue}
 use Rattle.ln_world_channels.specs.declared.line.EndLine.{EndLine}
 use Rattle.ln_world_channels.specs.declared.line.Line.{Line}
 use Rattle.ln_world_channels.specs.World.{World as Channels, end_lines}
-use Rattle.ln_world_dispatch.specs.Seated.{Answers, Tables, Stand}
+use Rattle.ln_world_dispatch.specs.Slots.{Answers, Tables, Stand}
 use Rattle.ln_world.specs.World.{World, empty, run, run_lines, MayFail, SomeMayFail}
 use Rattle.ln_world.specs.Hooked.{answered, Steps, HasRun}
 use Rattle.ln_script.specs.Keys.{toy}

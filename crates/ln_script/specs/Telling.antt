@@ -5,7 +5,7 @@ use Rattle.ln_msgs.specs.declared.refusals.refusal.Refusal.TheVariants as refusa
 use Rattle.ln_keys.specs.declared.toy_keys.ToyKeys.{ToyKeys}
 use Rattle.ln_hooks.specs.declared.event.ChannelEvent.{ChannelEvent}
 use Rattle.ln_hooks.specs.declared.verdict.Verdict.{Verdict}
-use Rattle.ln_world_dispatch.specs.Seated.{Answers, Tables, Stand}
+use Rattle.ln_world_dispatch.specs.Slots.{Answers, Tables, Stand}
 use Rattle.ln_world.specs.World.{World}
 use Rattle.ln_script.specs.Step.{ToyStep}
 use Rattle.ln_script.specs.Report.{StepTold, StepPartlyTold, StepFails}

@@ -8,7 +8,7 @@ ghost use Rattle.ln_channel.specs.Outputs.{numbered};
 ghost use Rattle.ln_channel_laws.specs.Moves.{after_all};
 ghost use Rattle.ln_channel_laws.specs.Told.{events_in, unnumbered, ClosesLast};
 ghost use Rattle.ln_world_channels.specs.Promises.{Headline, NoneRefused, AllTaken, OneFee, Agrees};
-ghost use Rattle.ln_world_channels.specs.Promises.{AnswersShutdown, MarksAgree, BothClose, DoExactly};
+ghost use Rattle.ln_world_channels.specs.Promises.{AnswersShutdown, ReadinessAgrees, BothClose, DoExactly};
 ghost use Rattle.ln_world_channels.specs.Longest.{BasesAreLongest};
 ghost use Rattle.ln_world_channels.specs.Records.{HaveRecords};
 ghost use Rattle.ln_world_channels.specs.Machine.{machine_of, history, all_told, AreInStep};
@@ -17,7 +17,7 @@ ghost use Rattle.ln_world_channels.specs.Setup.{all_setups, OpensAsSet};
 ghost use Rattle.ln_world_channels.specs.Signing.{SignCovered};
 ghost use Rattle.ln_world_channels.specs.World as channels;
 ghost use Rattle.ln_world_channels.specs.declared.step.Node.{Node};
-ghost use Rattle.ln_world_dispatch.specs.Seated.{Answers};
+ghost use Rattle.ln_world_dispatch.specs.Slots.{Answers};
 ghost use Rattle.ln_world.specs.Promises.{OfEach, CallsFollow, DispatchersStand, events_of, channel_steps};
 ghost use Rattle.ln_payment_circuits.specs.Snapshot.{Incoming};
 ghost use Rattle.ln_world_payments.specs.Circuit.{PaysOnce};
@@ -32,9 +32,10 @@ use ln_keys::ToyKeys;
 use ln_world::{
     a_shutdown_is_answered, agreement, bases_are_the_longest, channels_open_as_set, close_is_last,
     closed_at_one_fee, closing_ends, commands_are_done_exactly, decisions_follow_dispatches,
-    each_move_may_be_made, events_are_told, every_end_has_a_record, headline, marks_agree_at_rest,
+    each_move_may_be_made, events_are_reported, every_end_has_a_record, headline,
     moves_are_the_machines, never_refused, never_refused_where_fees_overlap,
-    signatures_are_over_what_is_covered, undecided_events_are_the_machines,
+    readiness_agrees_at_rest, signatures_are_over_what_is_covered,
+    undecided_events_are_the_machines,
 };
 use ln_world_payments::one_payment_out;
 
@@ -64,14 +65,14 @@ pub fn steps_are_wide()
 /// (`ln_world::never_refused_where_fees_overlap`); both close at one fee (`ln_world::closed_at_one_fee`); a shutdown is
 /// answered (`ln_world::a_shutdown_is_answered`); at rest both ends hold every update and their commitments are worth
 /// the same (`ln_world::agreement`); where nothing is in flight each has taken the other's marks
-/// (`ln_world::marks_agree_at_rest`), and both have closed once both have shut down and all is done
+/// (`ln_world::readiness_agrees_at_rest`), and both have closed once both have shut down and all is done
 /// (`ln_world::closing_ends`); each signature in flight is over what its end has covered
 /// (`ln_world::signatures_are_over_what_is_covered`); a command is done exactly where its end's marks and the machine
 /// let it (`ln_world::commands_are_done_exactly`); a channel is there as it was set up
 /// (`ln_world::channels_open_as_set`). The moves that the steps are for a channel lead its machine to the two parties
 /// that its links stand for (`ln_world::moves_are_the_machines`), each where the machine may make it
 /// (`ln_world::each_move_may_be_made`); the events that an end hands out are the machine's, each once and in order
-/// (`ln_world::events_are_told`), what it has yet to decide are those from a place on
+/// (`ln_world::events_are_reported`), what it has yet to decide are those from a place on
 /// (`ln_world::undecided_events_are_the_machines`), and the close is the last one, of the moves and of what is handed
 /// out (`ln_world::close_is_last`); what is decided was dispatched (`ln_world::decisions_follow_dispatches`). Each end
 /// has a record, from which it comes back where its node restarts (`ln_world::every_end_has_a_record`), as what the
@@ -90,7 +91,7 @@ pub fn scripts_keep_the_promises()
     ensures closed_at_one_fee { AfterEachScript (OfEach OneFee) }
     ensures a_shutdown_is_answered { AfterEachScript (OfEach AnswersShutdown) }
     ensures agreement { AfterEachScript (OfEach Agrees) }
-    ensures marks_agree_at_rest { AfterEachScript (OfEach MarksAgree) }
+    ensures readiness_agrees_at_rest { AfterEachScript (OfEach ReadinessAgrees) }
     ensures closing_ends { AfterEachScript (OfEach BothClose) }
     ensures signatures_are_over_what_is_covered { AfterEachScript (OfEach (SignCovered toy_signer)) }
     ensures commands_are_done_exactly { AfterEachScript (OfEach (DoExactly toy_signer)) }
@@ -106,7 +107,7 @@ pub fn scripts_keep_the_promises()
         → script_at text ≡ Ok steps
         → IsRun (history toy number (channel_steps toy hooks (said_by a hooks steps)) channels.empty) None
         (machine_of (channels.channel number (left_by a hooks steps).dispatchers.channels.channels)) }
-    ensures events_are_told { (text : List ℕ) (steps : List ToyStep) (a : Answers) (hooks number : ℕ) (side : Role)
+    ensures events_are_reported { (text : List ℕ) (steps : List ToyStep) (a : Answers) (hooks number : ℕ) (side : Role)
         → script_at text ≡ Ok steps
         → events_in (all_told toy number side (channel_steps toy hooks (said_by a hooks steps)) channels.empty)
         ≡ numbered 0 (events_of toy hooks number side (said_by a hooks steps)) }
@@ -134,14 +135,14 @@ pub fn scripts_keep_the_promises()
     closed_at_one_fee::<ToyKeys>();
     a_shutdown_is_answered::<ToyKeys>();
     agreement::<ToyKeys>();
-    marks_agree_at_rest::<ToyKeys>();
+    readiness_agrees_at_rest::<ToyKeys>();
     closing_ends::<ToyKeys>();
     signatures_are_over_what_is_covered::<ToyKeys>();
     commands_are_done_exactly::<ToyKeys>();
     channels_open_as_set::<ToyKeys>();
     moves_are_the_machines::<ToyKeys>();
     each_move_may_be_made::<ToyKeys>();
-    events_are_told::<ToyKeys>();
+    events_are_reported::<ToyKeys>();
     undecided_events_are_the_machines::<ToyKeys>();
     close_is_last::<ToyKeys>();
     decisions_follow_dispatches::<ToyKeys>();

@@ -5,4 +5,4 @@ pub mod Answers
 pub mod Owing
 pub mod Snapshots
 pub mod Seen
-pub mod Seats
+pub mod Handles

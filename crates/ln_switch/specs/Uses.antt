@@ -22,16 +22,16 @@ takes_payments l e =
     && (not e.closing.shut && (not e.closing.peer_shut && is_none e.closing.closed)))))
 
 -- the least that the other end takes, in msat: what it told as the channel was opened
-abbrev pub minimum_told : Role → Terms → ℕ
-minimum_told Funder t = t.accept_channel.htlc_minimum_msat
-minimum_told Fundee t = t.open_channel.htlc_minimum_msat
+abbrev pub minimum_of_peer : Role → Terms → ℕ
+minimum_of_peer Funder t = t.accept_channel.htlc_minimum_msat
+minimum_of_peer Fundee t = t.open_channel.htlc_minimum_msat
 
 -- what a book is told of an end
 abbrev pub use_of : {K : Type 0} → State K → End → Use
 use_of l e = record {
   channel = e.dance.channel;
   short_id = option_map id_bytes e.readiness.short_id;
-  minimum = minimum_told e.closing.role e.terms;
+  minimum = minimum_of_peer e.closing.role e.terms;
   takes = takes_payments l e;
 }
 
@@ -48,10 +48,10 @@ abbrev pub with_use : Policy → Use → History Table Entry → History Table E
 with_use p u b = with_entry (entry.Use u.channel u.takes) (with_route p u u.short_id b)
 
 -- what this channel's end has kept, as a book is told
-abbrev pub told_of : List ℕ → End → History Table Entry → KeptState
-told_of c e b =
+abbrev pub kept_of : List ℕ → End → History Table Entry → KeptState
+kept_of c e b =
     kept_state_of (next_own_id e) (λ id. has_own_removal id e.dance.log) (λ n mark. has_decided n mark e) c (table_of b)
 
 -- the book is told so, as its connection was lost or it was loaded
 abbrev pub with_dropped : List ℕ → End → History Table Entry → History Table Entry
-with_dropped c e b = with_entry (entry.Dropped c (told_of c e b)) b
+with_dropped c e b = with_entry (entry.Dropped c (kept_of c e b)) b

@@ -3,7 +3,7 @@
 ghost use Rattle.std.specs.Prelude.{◌≡◌, ◌⊎◌, ◌↔◌, OnOk, OnErr, IfErr, option_map, true, Some};
 ghost use Rattle.ln_msgs.specs.declared.refusals.refusal.Refusal.TheVariants as refusal;
 ghost use Rattle.ln_forward.specs.Payload.{id_bytes};
-ghost use Rattle.ln_switch.specs.Uses.{takes_payments, minimum_told, use_of, with_route, with_use};
+ghost use Rattle.ln_switch.specs.Uses.{takes_payments, minimum_of_peer, use_of, with_route, with_use};
 
 use ln_book::Book;
 use ln_bytes::ShortId;
@@ -41,8 +41,8 @@ fn takes_payments<K: ChannelKeys + Drop>(link: &ChannelMachine<K>, end: &Channel
 }
 
 // The least that the other end takes, in msat.
-fn minimum_told(end: &Channel) -> u64
-    ensures { result ≡ minimum_told end.now.closing.role end.now.terms }
+fn minimum_of_peer(end: &Channel) -> u64
+    ensures { result ≡ minimum_of_peer end.now.closing.role end.now.terms }
 {
     match end.closing().role {
         Role::Funder => end.terms().accept_channel.htlc_minimum_msat,
@@ -67,7 +67,7 @@ pub fn use_of<K: ChannelKeys + Drop>(link: &ChannelMachine<K>, end: &Channel) ->
     Use {
         channel: end.id(),
         short_id: bytes_of(end.readiness().short_id),
-        minimum: minimum_told(end),
+        minimum: minimum_of_peer(end),
         takes: takes_payments(link, end),
     }
 }

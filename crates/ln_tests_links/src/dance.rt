@@ -8,8 +8,8 @@ use ln_log::{Pair, Update};
 use ln_msgs::{CommitmentSigned, Refusal, RevokeAndAck};
 use std::alloc::Global;
 
-/// What a turn tells: the signature, and the revocation's secret and point.
-type Told = ([u8; 64], [u8; 32], [u8; 33]);
+/// What a turn shows: the signature, and the revocation's secret and point.
+type Shown = ([u8; 64], [u8; 32], [u8; 33]);
 
 /// One side signs, the other accepts, and the first learns.
 fn turn(
@@ -18,7 +18,7 @@ fn turn(
     signer_keys: &ToyKeys,
     taker: &mut Dance,
     taker_keys: &ToyKeys,
-) -> Result<Told, Refusal> {
+) -> Result<Shown, Refusal> {
     let signed = boxed(alloc, signer.sign(alloc, signer_keys)?)?;
     let accepted = taker.accept(alloc, taker_keys, &signed);
     let told = match &accepted {
@@ -35,7 +35,7 @@ fn learned(
     signer_keys: &ToyKeys,
     signed: &CommitmentSigned,
     revocation: &RevokeAndAck,
-) -> Result<Told, Refusal> {
+) -> Result<Shown, Refusal> {
     signer.learn(signer_keys, revocation)?;
     Ok((signed.signature, revocation.secret, revocation.next_point))
 }
@@ -69,7 +69,7 @@ fn sides(alloc: Global) -> Result<(Box<Dance>, Box<Dance>), Refusal> {
 }
 
 /// What both turns tell behind an offer. What is offered before them and lost with the connection leaves nothing.
-fn turns(alloc: Global, a: &mut Dance, b: &mut Dance) -> Result<[Told; 2], Refusal> {
+fn turns(alloc: Global, a: &mut Dance, b: &mut Dance) -> Result<[Shown; 2], Refusal> {
     offer(a, b)?;
     a.drop_unsigned();
     b.drop_unsigned();
@@ -92,12 +92,12 @@ const BACK: (&str, &str, &str) = (
     "eb9c357a3f3d7c3a584373f5b9db488bb13bd1b208fee7758f91f92c2c83b7b3",
 );
 
-fn told_of(row: (&str, &str, &str)) -> Told {
+fn shown_of(row: (&str, &str, &str)) -> Shown {
     (signature_of(row.0), bytes_of(row.1), point_of(row.2))
 }
 
 /// Whether an offer and a turn of either side tell this.
-fn are_told(alloc: Global, a: &mut Dance, b: &mut Dance) -> Result<bool, Refusal> {
+fn are_shown(alloc: Global, a: &mut Dance, b: &mut Dance) -> Result<bool, Refusal> {
     let told = turns(alloc, a, b)?;
     let learned = Peer {
         point: FUNDEE.point(1),
@@ -111,7 +111,7 @@ fn are_told(alloc: Global, a: &mut Dance, b: &mut Dance) -> Result<bool, Refusal
         revoked: 1,
     };
     Ok(
-        told == [told_of(OUT), told_of(BACK)]
+        told == [shown_of(OUT), shown_of(BACK)]
             && a.peer() == learned
             && numbers(a, b) == [1; 6]
             && a.later() == Later::Revocation
@@ -124,7 +124,7 @@ fn are_told(alloc: Global, a: &mut Dance, b: &mut Dance) -> Result<bool, Refusal
 #[test]
 fn signatures_and_revocations(rt: HostRuntime) -> Result<(), Refusal> {
     let (mut a, mut b) = sides(rt.alloc())?;
-    assert!(rt; are_told(rt.alloc(), &mut a, &mut b)?);
+    assert!(rt; are_shown(rt.alloc(), &mut a, &mut b)?);
     Ok(())
 }
 
@@ -177,7 +177,7 @@ fn fields_of(update: &Update) -> [u64; 4] {
 
 /// What the update says that a message of this type tells, whose bytes behind the type are these, each so many times;
 /// zeros where it tells none.
-fn told_update(alloc: Global, typ: u16, runs: &[(usize, u8)]) -> Result<[u64; 4], Refusal> {
+fn shown_update(alloc: Global, typ: u16, runs: &[(usize, u8)]) -> Result<[u64; 4], Refusal> {
     let made = message_of(alloc, typ, runs).map(|message| update_of(message));
     let fields = match &made {
         Ok(Some(update)) => Ok(fields_of(update)),
@@ -232,6 +232,6 @@ const MESSAGES: [Row; 6] = [
 fn updates_of_messages(rt: HostRuntime) {
     let alloc = rt.alloc();
     for row in &MESSAGES {
-        assert_eq!(rt; told_update(alloc, row.0, row.1), Ok(row.2));
+        assert_eq!(rt; shown_update(alloc, row.0, row.1), Ok(row.2));
     }
 }

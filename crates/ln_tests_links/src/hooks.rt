@@ -12,9 +12,9 @@ use std::thread;
 
 /// Whose HTLC it was, its id, its amount or the first byte or the length of what it was removed by, and its expiry or
 /// failure code.
-type Told = (bool, u64, u64, u32);
+type Shown = (bool, u64, u64, u32);
 
-fn told(event: &ChannelEvent) -> Told {
+fn shown(event: &ChannelEvent) -> Shown {
     match event {
         ChannelEvent::Added {
             own,
@@ -36,14 +36,14 @@ fn told(event: &ChannelEvent) -> Told {
 }
 
 /// What is told of an update of this side's or of the peer's.
-fn event_told(alloc: Global, own: bool, what: What) -> Result<Option<Told>, Refusal> {
+fn event_shown(alloc: Global, own: bool, what: What) -> Result<Option<Shown>, Refusal> {
     let list = updates(alloc, &[what])?;
     let Some(update) = list.first() else {
         return Ok(None);
     };
     let event = event_of(alloc, own, update);
     let told = match &event {
-        Ok(Some(event)) => Ok(Some(told(event))),
+        Ok(Some(event)) => Ok(Some(shown(event))),
         Ok(None) => Ok(None),
         Err(refusal) => Err(*refusal),
     };
@@ -53,7 +53,7 @@ fn event_told(alloc: Global, own: bool, what: What) -> Result<Option<Told>, Refu
 
 /// An add is of the side that offers it, and a removal of the other side's HTLC. No channel holds what passes the
 /// bound.
-const EVENTS: [(bool, What, Option<Told>); 7] = [
+const EVENTS: [(bool, What, Option<Shown>); 7] = [
     (true, Add(3, 5000, 400), Some((true, 3, 5000, 400))),
     (
         false,
@@ -67,9 +67,9 @@ const EVENTS: [(bool, What, Option<Told>); 7] = [
     (true, Fee(253), None),
 ];
 
-fn are_told(alloc: Global) -> Result<bool, Refusal> {
+fn are_shown(alloc: Global) -> Result<bool, Refusal> {
     for (own, what, want) in &EVENTS {
-        if event_told(alloc, *own, *what)? != *want {
+        if event_shown(alloc, *own, *what)? != *want {
             return Ok(false);
         }
     }
@@ -78,7 +78,7 @@ fn are_told(alloc: Global) -> Result<bool, Refusal> {
 
 #[test]
 fn small_events(rt: HostRuntime) -> Result<(), Refusal> {
-    assert!(rt; are_told(rt.alloc())?);
+    assert!(rt; are_shown(rt.alloc())?);
     Ok(())
 }
 

@@ -27,7 +27,7 @@ fn passed<S: RecordStore + Drop>(
     Ok(())
 }
 
-fn told<S: RecordStore + Drop>(
+fn commanded<S: RecordStore + Drop>(
     alloc: Global,
     from: &mut Side<S>,
     to: &mut Side<S>,
@@ -140,7 +140,7 @@ fn load<S: RecordStore + Drop>(alloc: Global, side: &mut Side<S>) -> Result<Answ
 }
 
 /// By what a side refuses an error for all channels.
-fn heard<S: RecordStore + Drop>(alloc: Global, side: &mut Side<S>) -> u32 {
+fn received<S: RecordStore + Drop>(alloc: Global, side: &mut Side<S>) -> u32 {
     let error = Error {
         channel_id: [0; 32],
         bytes: Bytes::empty(alloc),
@@ -165,7 +165,7 @@ fn answer<S: RecordStore + Drop>(
         Decide(event) => refused(decided(alloc, side, event, Mark::None)),
         Garble(event) => refused(decided(alloc, side, event, Mark::Malformed(5))),
         Forget(id) => refused(forgotten(alloc, side, id)),
-        Hear => refused(heard(alloc, side)),
+        Hear => refused(received(alloc, side)),
         Lose => {
             side.link.drop_connection();
             refused(0)
@@ -221,9 +221,9 @@ fn offered<S: RecordStore + Drop>(
         onion,
         origin: Some(([7; 32], 5)),
     };
-    told(alloc, a, b, command)?;
-    told(alloc, a, b, Command::Sign)?;
-    told(alloc, b, a, Command::Sign)
+    commanded(alloc, a, b, command)?;
+    commanded(alloc, a, b, Command::Sign)?;
+    commanded(alloc, b, a, Command::Sign)
 }
 
 /// It is failed, and that is signed by both.
@@ -236,9 +236,9 @@ fn failed<S: RecordStore + Drop>(
         id: 0,
         reason: Bytes::empty(alloc),
     };
-    told(alloc, b, a, fail)?;
-    told(alloc, b, a, Command::Sign)?;
-    told(alloc, a, b, Command::Sign)
+    commanded(alloc, b, a, fail)?;
+    commanded(alloc, b, a, Command::Sign)?;
+    commanded(alloc, a, b, Command::Sign)
 }
 
 /// How many rows are right once both hold the HTLC, and how many once both hold its failure too.

@@ -36,9 +36,9 @@ const FULFIL: [What; 1] = [Fulfil(0, 0)];
 
 /// How many HTLCs are live in the own commitment of the log that is loaded, the id of its next one, whether it covers
 /// what was told, and which of two numbers of commitments it can have signed, the first and the second.
-type Told = (usize, u64, bool, [bool; 2]);
+type Shown = (usize, u64, bool, [bool; 2]);
 
-fn told(log: &UpdateLog, covered: &Coverage) -> Told {
+fn shown(log: &UpdateLog, covered: &Coverage) -> Shown {
     let numbers = Numbers {
         commitment: 1,
         signed: 1,
@@ -80,7 +80,7 @@ fn loaded(
     own: &[What],
     peer: &[What],
     counts: [usize; 6],
-) -> Result<Option<Told>, Refusal> {
+) -> Result<Option<Shown>, Refusal> {
     let own = updates(alloc, own)?;
     let peer = updates(alloc, peer)?;
     let covered = coverage(counts);
@@ -90,7 +90,7 @@ fn loaded(
     }
     let made = UpdateLog::load(alloc, OPENING, role, base, own, peer, covered);
     let told = match &made {
-        Ok(log) => Ok(Some(told(log, &covered))),
+        Ok(log) => Ok(Some(shown(log, &covered))),
         Err(refusal) => Err(*refusal),
     };
     drop(made);

@@ -340,7 +340,7 @@ fn is_fulfilment(update: Option<&Update>, id: u64) -> bool {
 }
 
 /// Whether the plain programs tell of these updates what they should.
-fn is_told(funder: &[Update], fundee: &[Update]) -> bool {
+fn is_shown(funder: &[Update], fundee: &[Update]) -> bool {
     outcome_of(0, fundee) == Outcome::Live
         && outcome_of(1, fundee) == Outcome::Fulfilled
         && is_fulfilment(fundee.first(), 1)
@@ -351,11 +351,11 @@ fn is_told(funder: &[Update], fundee: &[Update]) -> bool {
 }
 
 /// Of two removals the first counts, and of two feerates the last.
-fn plain_programs_tell(alloc: Global) -> Result<bool, Refusal> {
+fn plain_programs_show(alloc: Global) -> Result<bool, Refusal> {
     let whats = [Add(0, 5000, 400), Fee(300), Add(1, 3000, 400), Fee(280)];
     let funder = updates(alloc, &whats)?;
     let fundee = updates(alloc, &[Fulfil(1, 0), Malformed(1, 0xc005), Fail(2, 3)])?;
-    Ok(is_told(&funder, &fundee))
+    Ok(is_shown(&funder, &fundee))
 }
 
 /// Whether the plain program makes of an opening what the log does.
@@ -366,7 +366,7 @@ fn is_opened(alloc: Global) -> Result<bool, Refusal> {
 
 #[test]
 fn small_plain_programs(rt: HostRuntime) -> Result<(), Refusal> {
-    assert!(rt; plain_programs_tell(rt.alloc())?);
+    assert!(rt; plain_programs_show(rt.alloc())?);
     assert!(rt; is_opened(rt.alloc())?);
     Ok(())
 }

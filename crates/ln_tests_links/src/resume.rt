@@ -96,7 +96,7 @@ fn play(alloc: Global, steps: &[(Role, Step)]) -> Result<(Box<Dance>, Box<Dance>
 }
 
 /// What is sent again, in words.
-fn told(alloc: Global, resends: &[Resend]) -> Result<String, Refusal> {
+fn shown(alloc: Global, resends: &[Resend]) -> Result<String, Refusal> {
     let mut text = String::new(alloc);
     for resend in resends {
         match resend {
@@ -205,8 +205,8 @@ fn come_back(alloc: Global, steps: &[(Role, Step)]) -> Result<Back, Refusal> {
     let words = words(alloc, &a, &b);
     let again_a = again(alloc, &a, &FUNDER, &b, &FUNDEE)?;
     let again_b = again(alloc, &b, &FUNDEE, &a, &FUNDER)?;
-    let text_a = told(alloc, again_a.as_slice())?;
-    let text_b = told(alloc, again_b.as_slice())?;
+    let text_a = shown(alloc, again_a.as_slice())?;
+    let text_b = shown(alloc, again_b.as_slice())?;
     deliver(alloc, again_a, &mut a, &FUNDER, &mut b, &FUNDEE)?;
     deliver(alloc, again_b, &mut b, &FUNDEE, &mut a, &FUNDER)?;
     Ok((words, text_a, text_b, [numbers(&a), numbers(&b)]))

@@ -105,7 +105,7 @@ impl Client {
     }
 
     /// The type of the next message, which the end isn't told of.
-    pub(crate) fn hear(&mut self, alloc: Global) -> io::Result<u16> {
+    pub(crate) fn receive(&mut self, alloc: Global) -> io::Result<u16> {
         let bytes = self.read(alloc)?;
         match bytes.as_slice() {
             [high, low, ..] => Ok(u16::from_be_bytes([*high, *low])),
@@ -150,7 +150,7 @@ impl Client {
     }
 
     /// Leaves the connection, makes another, and greets there. The end isn't told.
-    pub(crate) fn greet_again<R>(&mut self, rt: &R, address: SocketAddr) -> io::Result<()>
+    pub(crate) fn connect_again<R>(&mut self, rt: &R, address: SocketAddr) -> io::Result<()>
     where
         R: Net<Listener = TcpListener, Stream = TcpStream>,
     {

@@ -7,7 +7,7 @@ use ln_msgs::Refusal;
 use std::net::TcpStream;
 use std::test::*;
 
-fn told(refusal: Refusal) -> Fail {
+fn shown(refusal: Refusal) -> Fail {
     match refusal {
         Refusal::Memory => "no memory".into(),
         Refusal::Io => "no socket".into(),
@@ -23,7 +23,7 @@ fn listens_behind_strangers(rt: HostRuntime) -> Result<(), Fail> {
     drop(TcpStream::connect(&rt, address)?);
     let mut client = Client::connect(&rt, alloc, stranger, TXIDS[1], address)?;
     client.take(alloc, 1)?;
-    assert_eq!(rt; client.hear(alloc)?, 33);
+    assert_eq!(rt; client.receive(alloc)?, 33);
     drop(client);
     let a = funder(rt, alloc, address).map_err(told)?;
     assert!(rt; wait_for_use(&rt, &a, &b, true));

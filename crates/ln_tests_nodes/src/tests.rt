@@ -186,7 +186,7 @@ fn ping_beside_hook(rt: HostRuntime) -> io::Result<()> {
     order(&rt, &node, 0, Command::Sign)?;
     client.take(alloc, 1)?;
     client.send(&ping_frame())?;
-    assert_eq!(rt; client.hear(alloc)?, 19);
+    assert_eq!(rt; client.receive(alloc)?, 19);
     assert_eq!(rt; seen.load(Ordering::SeqCst), 0);
     answered.store(1, Ordering::SeqCst);
     assert!(rt; wait_for(&seen));
@@ -352,11 +352,11 @@ fn waits_for_a_silent_peer(rt: HostRuntime) -> io::Result<()> {
     order(&rt, &node, 0, Command::Sign)?;
     client.take(alloc, 1)?;
     // update_fail_malformed_htlc, which isn't signed: it is lost with the connection
-    assert_eq!(rt; client.hear(alloc)?, 135);
-    client.greet_again(&rt, address)?;
+    assert_eq!(rt; client.receive(alloc)?, 135);
+    client.connect_again(&rt, address)?;
     // init and channel_reestablish
-    assert_eq!(rt; client.hear(alloc)?, 16);
-    assert_eq!(rt; client.hear(alloc)?, 136);
+    assert_eq!(rt; client.receive(alloc)?, 16);
+    assert_eq!(rt; client.receive(alloc)?, 136);
     AtomicU64::new(0).park_timeout(&rt, 0, Duration::from_millis(200));
     let notices = node.notices(&rt, alloc);
     assert!(rt; !is_any_disconnected(notices.as_slice()));

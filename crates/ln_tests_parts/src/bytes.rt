@@ -245,7 +245,7 @@ const IN_SECOND: [Row; 2] = [
 
 /// How a stream is told: each record by its type and how many bytes its value has, where they are written as these
 /// bytes again, or its fault.
-fn told(alloc: Global, bytes: &[u8], known_even: &[u64]) -> Result<String, AllocError> {
+fn shown(alloc: Global, bytes: &[u8], known_even: &[u64]) -> Result<String, AllocError> {
     let records = match read_tlvs(alloc, bytes, known_even) {
         Ok(records) => records,
         Err(fault) => return format!(in alloc; "{fault}"),
@@ -265,9 +265,9 @@ fn record_texts(alloc: Global, records: &[Record]) -> Result<String, AllocError>
 }
 
 /// Whether each stream is told so.
-fn are_told(alloc: Global, known_even: &[u64], rows: &[Row]) -> Result<bool, AllocError> {
+fn are_shown(alloc: Global, known_even: &[u64], rows: &[Row]) -> Result<bool, AllocError> {
     for row in rows {
-        if told(alloc, row.0, known_even)?.as_str() != row.1 {
+        if shown(alloc, row.0, known_even)?.as_str() != row.1 {
             return Ok(false);
         }
     }
@@ -275,25 +275,25 @@ fn are_told(alloc: Global, known_even: &[u64], rows: &[Row]) -> Result<bool, All
 }
 
 /// Whether the appendix's value that is cut short is told so: its length is 513.
-fn is_short_told(alloc: Global) -> Result<bool, AllocError> {
+fn is_short_shown(alloc: Global) -> Result<bool, AllocError> {
     let mut short = [0; 516];
     short[..4].copy_from_slice(&[0x0f, 0xfd, 0x02, 0x01]);
-    Ok(told(alloc, &short, &FIRST)?.as_str() == "refused 5")
+    Ok(shown(alloc, &short, &FIRST)?.as_str() == "refused 5")
 }
 
-fn all_are_told(alloc: Global) -> Result<bool, AllocError> {
+fn all_are_shown(alloc: Global) -> Result<bool, AllocError> {
     Ok(
-        are_told(alloc, &FIRST, &BAD_STREAMS)?
-            && are_told(alloc, &SECOND, &BAD_STREAMS)?
-            && are_told(alloc, &FIRST, &IN_FIRST)?
-            && are_told(alloc, &SECOND, &IN_SECOND)?
-            && is_short_told(alloc)?,
+        are_shown(alloc, &FIRST, &BAD_STREAMS)?
+            && are_shown(alloc, &SECOND, &BAD_STREAMS)?
+            && are_shown(alloc, &FIRST, &IN_FIRST)?
+            && are_shown(alloc, &SECOND, &IN_SECOND)?
+            && is_short_shown(alloc)?,
     )
 }
 
 #[test]
 fn streams(rt: HostRuntime) {
-    assert!(rt; all_are_told(rt.alloc()) == Ok(true));
+    assert!(rt; all_are_shown(rt.alloc()) == Ok(true));
 }
 
 /// The first byte of the value of each of the types 1 to 3, and 0 where there is none.

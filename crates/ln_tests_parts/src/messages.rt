@@ -90,7 +90,7 @@ fn is_written_as(alloc: Global, message: &Message, bytes: &[u8]) -> bool {
 }
 
 /// What the bytes say: of a known type its name, where the message is written as these bytes again.
-fn told(alloc: Global, bytes: &[u8]) -> Result<String, AllocError> {
+fn shown(alloc: Global, bytes: &[u8]) -> Result<String, AllocError> {
     let decoded = decode(alloc, bytes);
     let text = match &decoded {
         Ok(Incoming::Known(message)) => {
@@ -109,7 +109,7 @@ fn told(alloc: Global, bytes: &[u8]) -> Result<String, AllocError> {
 }
 
 /// Whether the bytes are told so.
-fn is_told(
+fn is_shown(
     alloc: Global,
     typ: u16,
     zeros: usize,
@@ -117,13 +117,13 @@ fn is_told(
     want: &str,
 ) -> Result<bool, AllocError> {
     let bytes = bytes_of(alloc, typ, zeros, tail)?;
-    Ok(told(alloc, &bytes)?.as_str() == want)
+    Ok(shown(alloc, &bytes)?.as_str() == want)
 }
 
 /// Whether a message of zeros is cut short wherever it is cut.
 fn is_refused_where_cut(alloc: Global, typ: u16, len: usize) -> Result<bool, AllocError> {
     for short in 0..len {
-        if !is_told(alloc, typ, short, &[], "refused 1")? {
+        if !is_shown(alloc, typ, short, &[], "refused 1")? {
             return Ok(false);
         }
     }
@@ -132,12 +132,12 @@ fn is_refused_where_cut(alloc: Global, typ: u16, len: usize) -> Result<bool, All
 
 /// Whether a message of zeros is told by its name, and is refused wherever it is cut.
 fn is_message(alloc: Global, typ: u16, len: usize, name: &str) -> bool {
-    is_told(alloc, typ, len, &[], name) == Ok(true)
+    is_shown(alloc, typ, len, &[], name) == Ok(true)
         && is_refused_where_cut(alloc, typ, len) == Ok(true)
 }
 
 fn has_tail(alloc: Global, row: &(u16, usize, &[u8], &str)) -> bool {
-    is_told(alloc, row.0, row.1, row.2, row.3) == Ok(true)
+    is_shown(alloc, row.0, row.1, row.2, row.3) == Ok(true)
 }
 
 #[test]
@@ -218,7 +218,7 @@ const FAULTY: [u8; 12] = [0, 6, 0, 18, 0, 2, 0, 0, 0, 2, 0, 100];
 
 /// The types of the messages that a piece gave, as digits to the base of 1000, or its fault's number and half a
 /// million.
-fn heard(framer: &mut Framer, alloc: Global, piece: &[u8]) -> u32 {
+fn received(framer: &mut Framer, alloc: Global, piece: &[u8]) -> u32 {
     let answer = framer.feed(alloc, piece);
     let types = match &answer {
         Ok(messages) => types_of(messages),
@@ -243,13 +243,13 @@ fn types_of(messages: &[Incoming]) -> u32 {
 const FAULT: u32 = 500_000;
 
 /// What is heard at each of three pieces, of which the first two end at these places.
-fn pieces_heard(alloc: Global, bytes: &[u8], first: usize, second: usize) -> [u32; 3] {
+fn pieces_read(alloc: Global, bytes: &[u8], first: usize, second: usize) -> [u32; 3] {
     let mut framer = Framer::new(alloc);
     let second = second.min(bytes.len());
     let first = first.min(second);
-    let one = heard(&mut framer, alloc, &bytes[..first]);
-    let two = heard(&mut framer, alloc, &bytes[first..second]);
-    [one, two, heard(&mut framer, alloc, &bytes[second..])]
+    let one = received(&mut framer, alloc, &bytes[..first]);
+    let two = received(&mut framer, alloc, &bytes[first..second]);
+    [one, two, received(&mut framer, alloc, &bytes[second..])]
 }
 
 /// A stream, where its first and its second piece end, and what is heard at each.
@@ -262,15 +262,15 @@ const PIECES: [(&[u8], usize, usize, [u32; 3]); 4] = [
     (&READY, 71, 72, [0, FAULT + 8, FAULT + 8]),
 ];
 
-fn is_heard(alloc: Global, row: &(&[u8], usize, usize, [u32; 3])) -> bool {
-    pieces_heard(alloc, row.0, row.1, row.2) == row.3
+fn is_read(alloc: Global, row: &(&[u8], usize, usize, [u32; 3])) -> bool {
+    pieces_read(alloc, row.0, row.1, row.2) == row.3
 }
 
 #[test]
 fn pieces(rt: HostRuntime) {
     let alloc = rt.alloc();
     for row in &PIECES {
-        assert!(rt; is_heard(alloc, row));
+        assert!(rt; is_read(alloc, row));
     }
 }
 

@@ -31,7 +31,7 @@ fn answered(alloc: Global, line: &str, input: &[u8]) -> Result<String, ProgramEr
 }
 
 /// That, or the line for standard error and the exit status.
-fn told(alloc: Global, line: &str, input: &[u8]) -> Result<String, Fail> {
+fn shown(alloc: Global, line: &str, input: &[u8]) -> Result<String, Fail> {
     match answered(alloc, line, input) {
         Ok(text) => Ok(text),
         Err(failure) => {
@@ -51,7 +51,7 @@ fn commands(rt: HostRuntime) -> Result<(), Fail> {
         ("answer", b"\0\x06\0\x12", "refused 1, 1"),
         ("sim", b"\xff", "refused 64 line 0, 1"),
     ] {
-        let got = told(rt.alloc(), line, input)?;
+        let got = shown(rt.alloc(), line, input)?;
         assert_eq!(rt; got.as_str(), text, "{line}");
     }
     Ok(())

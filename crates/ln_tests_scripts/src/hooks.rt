@@ -96,7 +96,7 @@ fn ends_without_hooks(alloc: Global, parts: &[Part]) -> Result<usize, Refusal> {
 }
 
 /// What is told of dispatches, and of what can't be done.
-fn told_of(alloc: Global, lines: &[Line]) -> Result<Vec<Line>, AllocError> {
+fn shown_of(alloc: Global, lines: &[Line]) -> Result<Vec<Line>, AllocError> {
     let mut told = Vec::new(alloc);
     for line in lines {
         if matches!(line, Line::Dispatched(..) | Line::Idle) {
@@ -107,11 +107,11 @@ fn told_of(alloc: Global, lines: &[Line]) -> Result<Vec<Line>, AllocError> {
 }
 
 /// Whether this is told of them, with these hooks.
-fn are_told(alloc: Global, parts: &[Part], told: &[Line]) -> Result<bool, Refusal> {
+fn are_shown(alloc: Global, parts: &[Part], told: &[Line]) -> Result<bool, Refusal> {
     let mut lines = Vec::new(alloc);
     let steps = steps_of(alloc, parts)?;
     drop(World::run_with(alloc, steps, hooks(alloc)?, &mut lines)?);
-    Ok(told_of(alloc, lines.as_slice())?.as_slice() == told)
+    Ok(shown_of(alloc, lines.as_slice())?.as_slice() == told)
 }
 
 // Two HTLCs from A to B, irrevocably committed at both.
@@ -166,7 +166,7 @@ fn hooks_are_called(rt: HostRuntime) {
         Line::Idle,
         Line::Dispatched(A0, 1, TEMPORARY),
     ];
-    assert_eq!(rt; are_told(rt.alloc(), &parts, &told), Ok(true));
+    assert_eq!(rt; are_shown(rt.alloc(), &parts, &told), Ok(true));
 }
 
 // Behind the event that its channel is closed a dispatcher serves none, over restarts too.
@@ -189,6 +189,6 @@ fn the_close_is_last(rt: HostRuntime) {
         Line::Dispatched(B0, 0, UNKNOWN),
         Line::Idle,
     ];
-    assert_eq!(rt; are_told(rt.alloc(), &parts, &told), Ok(true));
+    assert_eq!(rt; are_shown(rt.alloc(), &parts, &told), Ok(true));
     assert_eq!(rt; ends_without_hooks(rt.alloc(), &parts), Ok(2));
 }

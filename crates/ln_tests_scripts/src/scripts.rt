@@ -8,7 +8,7 @@ use std::alloc::Global;
 use std::test::Fail;
 
 /// Whether this is the report of a script, with the hooks that its lines ask for.
-fn is_told(alloc: Global, script: &str, report: &str) -> Result<bool, Refusal> {
+fn is_shown(alloc: Global, script: &str, report: &str) -> Result<bool, Refusal> {
     // (a report of this length needs no more: no growth of the writer can be refused as a failing write)
     let mut writer = Counted::new(Vec::with_capacity(alloc, report.len())?);
     let steps = read_script(alloc, script)?;
@@ -20,7 +20,7 @@ fn is_told(alloc: Global, script: &str, report: &str) -> Result<bool, Refusal> {
 #[test]
 fn small_script(rt: HostRuntime) -> Result<(), Refusal> {
     first_bad_line();
-    assert!(rt; is_told(rt.alloc(), "sign A0\n", "idle\n")?);
+    assert!(rt; is_shown(rt.alloc(), "sign A0\n", "idle\n")?);
     Ok(())
 }
 
@@ -29,7 +29,7 @@ fn small_row(rt: HostRuntime) -> Result<(), Refusal> {
     let script = "open 0 A B 1000 0\n";
     let report = "0 open\nA0 signed 0 committed 0 peer 0 balance 1000000/0 live 0 open\n\
                   B0 signed 0 committed 0 peer 0 balance 0/1000000 live 0 open\n";
-    assert!(rt; is_told(rt.alloc(), script, report)?);
+    assert!(rt; is_shown(rt.alloc(), script, report)?);
     Ok(())
 }
 

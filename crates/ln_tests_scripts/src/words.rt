@@ -5,7 +5,7 @@ use std::alloc::Global;
 use std::test::*;
 
 /// What these words ask for: the command's name, or the text that is to be decoded; or why they ask for nothing.
-fn told(alloc: Global, words: &[&str]) -> Result<String, Fail> {
+fn shown(alloc: Global, words: &[&str]) -> Result<String, Fail> {
     let mut all = Vec::new(alloc);
     for word in words {
         all.push(String::from_str(alloc, word)?)?;
@@ -47,7 +47,7 @@ fn command_lines(rt: HostRuntime) -> Result<(), Fail> {
         (["decode", "-h"].as_slice(), "usage"),
         (["--version"].as_slice(), "usage"),
     ] {
-        let got = told(rt.alloc(), words)?;
+        let got = shown(rt.alloc(), words)?;
         assert_eq!(rt; got.as_str(), text, "{text}");
     }
     Ok(())
@@ -57,7 +57,7 @@ fn command_lines(rt: HostRuntime) -> Result<(), Fail> {
 
 #[test]
 fn small_words(rt: HostRuntime) -> Result<(), Fail> {
-    let got = told(rt.alloc(), &["decode", "0015"])?;
+    let got = shown(rt.alloc(), &["decode", "0015"])?;
     assert_eq!(rt; got.as_str(), "0015");
     Ok(())
 }

@@ -68,7 +68,7 @@ fn outcome<S: RecordStore + Drop>(
 }
 
 /// It over a save of this end that fails, and whether it is completed.
-fn told<S: RecordStore + Drop>(
+fn shown<S: RecordStore + Drop>(
     alloc: Global,
     play: Play,
     a: &mut Player<S>,
@@ -88,7 +88,7 @@ fn told<S: RecordStore + Drop>(
     Ok(story)
 }
 
-fn told_of_new<S: RecordStore + Drop>(
+fn shown_of_new<S: RecordStore + Drop>(
     alloc: Global,
     play: Play,
     at: Role,
@@ -99,26 +99,26 @@ fn told_of_new<S: RecordStore + Drop>(
     let mut a = boxed(alloc, Player::new(alloc, "A", FUNDER, a))?;
     let b = fundee_side(alloc, of_b)?;
     let mut b = boxed(alloc, Player::new(alloc, "B", FUNDEE, b))?;
-    told(alloc, play, &mut a, &mut b, at)
+    shown(alloc, play, &mut a, &mut b, at)
 }
 
 /// Where an end's save fails, at which of its saves behind the opening, and what is told then where its store has the
 /// record of before, and where it has the one that was to be saved.
-type Told = (Role, u64, &'static str, &'static str);
+type Shown = (Role, u64, &'static str, &'static str);
 
 /// What is told where the store of an end fails, over these two.
-fn told_over<S: RecordStore + Drop>(
+fn shown_over<S: RecordStore + Drop>(
     alloc: Global,
     play: Play,
-    row: &Told,
+    row: &Shown,
     leaves_new: bool,
     (store, others): (S, S),
 ) -> Result<String, Refusal> {
     let failing = FailingStore::new(store, row.1.saturating_add(3), leaves_new);
     let other = FailingStore::new(others, 1000, false);
     match row.0 {
-        Role::Funder => told_of_new(alloc, play, Role::Funder, failing, other),
-        Role::Fundee => told_of_new(alloc, play, Role::Fundee, other, failing),
+        Role::Funder => shown_of_new(alloc, play, Role::Funder, failing, other),
+        Role::Fundee => shown_of_new(alloc, play, Role::Fundee, other, failing),
     }
 }
 
@@ -137,16 +137,16 @@ fn store_over<S: Alter + Drop>(
 }
 
 /// What is told over these databases. It is generic, as the type of a database over files is dear to name.
-fn told_of_two<S: Alter + Drop>(
+fn shown_of_two<S: Alter + Drop>(
     alloc: Global,
     play: Play,
-    row: &Told,
+    row: &Shown,
     leaves_new: bool,
     of_a: Result<Connection<S>, Refusal>,
     of_b: Result<Connection<S>, Refusal>,
 ) -> Result<String, Refusal> {
     let stores = both(store_over(alloc, of_a), store_over(alloc, of_b))?;
-    told_over(alloc, play, row, leaves_new, stores)
+    shown_over(alloc, play, row, leaves_new, stores)
 }
 
 /// Over which stores both ends keep their records.
@@ -156,29 +156,29 @@ enum Over {
     Databases,
 }
 
-fn told_by(
+fn shown_by(
     alloc: Global,
     over: Over,
     play: Play,
-    row: &Told,
+    row: &Shown,
     leaves_new: bool,
 ) -> Result<String, Refusal> {
     match over {
         Over::Memory => {
             let stores = (MemoryStore::new(alloc), MemoryStore::new(alloc));
-            told_over(alloc, play, row, leaves_new, stores)
+            shown_over(alloc, play, row, leaves_new, stores)
         }
         Over::Databases => {
             let of_a = connected_anew(alloc);
             let of_b = connected_anew(alloc);
-            told_of_two(alloc, play, row, leaves_new, of_a, of_b)
+            shown_of_two(alloc, play, row, leaves_new, of_a, of_b)
         }
     }
 }
 
-fn is_told(alloc: Global, over: Over, play: Play, row: &Told) -> Result<(bool, bool), Refusal> {
-    let with_old = told_by(alloc, over, play, row, false)?;
-    let with_new = told_by(alloc, over, play, row, true)?;
+fn is_shown(alloc: Global, over: Over, play: Play, row: &Shown) -> Result<(bool, bool), Refusal> {
+    let with_old = shown_by(alloc, over, play, row, false)?;
+    let with_new = shown_by(alloc, over, play, row, true)?;
     Ok((with_old.as_str() == row.2, with_new.as_str() == row.3))
 }
 
@@ -188,7 +188,7 @@ const B: Role = Role::Fundee;
 
 // A pays, B is paid. The six saves of either end, as an update alone saves nothing; the record of before is left, or
 // the new one.
-const PAYMENTS: [Told; 12] = [
+const PAYMENTS: [Shown; 12] = [
     (
         A,
         0,
@@ -269,7 +269,7 @@ const PAYMENTS: [Told; 12] = [
 ];
 
 // A closes. The three saves of either end; the record of before is left, or the new one.
-const CLOSES: [Told; 6] = [
+const CLOSES: [Shown; 6] = [
     (
         A,
         0,
@@ -323,11 +323,11 @@ const CLOSES: [Told; 6] = [
 #[test]
 fn over_a_save_that_fails_in_memory(rt: HostRuntime) {
     for row in &PAYMENTS {
-        let told = is_told(rt.alloc(), Over::Memory, Play::Payment, row);
+        let told = is_shown(rt.alloc(), Over::Memory, Play::Payment, row);
         assert_eq!(rt; told, Ok((true, true)), "payment, {}", row.1);
     }
     for row in &CLOSES {
-        let told = is_told(rt.alloc(), Over::Memory, Play::Close, row);
+        let told = is_shown(rt.alloc(), Over::Memory, Play::Close, row);
         assert_eq!(rt; told, Ok((true, true)), "close, {}", row.1);
     }
 }
@@ -335,11 +335,11 @@ fn over_a_save_that_fails_in_memory(rt: HostRuntime) {
 #[test]
 fn over_a_save_that_fails_in_databases(rt: HostRuntime) {
     for row in &PAYMENTS {
-        let told = is_told(rt.alloc(), Over::Databases, Play::Payment, row);
+        let told = is_shown(rt.alloc(), Over::Databases, Play::Payment, row);
         assert_eq!(rt; told, Ok((true, true)), "payment, {}", row.1);
     }
     for row in &CLOSES {
-        let told = is_told(rt.alloc(), Over::Databases, Play::Close, row);
+        let told = is_shown(rt.alloc(), Over::Databases, Play::Close, row);
         assert_eq!(rt; told, Ok((true, true)), "close, {}", row.1);
     }
 }

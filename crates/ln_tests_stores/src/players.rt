@@ -160,7 +160,7 @@ fn queue<T: Drop>(items: Vec<T>, others: &mut VecDeque<T>) -> Result<(), Refusal
     Ok(())
 }
 
-pub fn tells<S: RecordStore + Drop>(
+pub fn commands<S: RecordStore + Drop>(
     alloc: Global,
     x: &mut Player<S>,
     y: &mut Player<S>,
@@ -203,7 +203,7 @@ pub fn signs<S: RecordStore + Drop>(
     y: &mut Player<S>,
     story: &mut String,
 ) -> Result<(), Refusal> {
-    match tells(alloc, x, y, "sign", Command::Sign, story) {
+    match commands(alloc, x, y, "sign", Command::Sign, story) {
         Ok(()) => deliver(alloc, x, y, story),
         Err(Refusal::NothingToSign) => Ok(()),
         Err(refusal) => Err(refusal),
@@ -218,13 +218,13 @@ pub fn pays<S: RecordStore + Drop>(
     story: &mut String,
 ) -> Result<(), Refusal> {
     if a.summary(alloc)?.signed == 0 {
-        tells(alloc, a, b, "add", offer(), story)?;
+        commands(alloc, a, b, "add", offer(), story)?;
     }
     signs(alloc, a, b, story)?;
     signs(alloc, b, a, story)?;
     if b.summary(alloc)?.signed == 0 {
         let preimage = [0; 32];
-        tells(
+        commands(
             alloc,
             b,
             a,
@@ -247,7 +247,7 @@ pub fn closes<S: RecordStore + Drop>(
     match a.summary(alloc)?.status {
         ChannelStatus::Ready => {
             let script = Bytes::empty(alloc);
-            tells(alloc, a, b, "shutdown", Command::Shutdown(script), story)?;
+            commands(alloc, a, b, "shutdown", Command::Shutdown(script), story)?;
         }
         _ => {}
     }

@@ -1,6 +1,6 @@
 //! A channel whose ends keep their records in files: both processes end, the files are opened again, and it goes on.
 
-use crate::players::{Player, both, is_paid, meet, pays, signs, tells};
+use crate::players::{Player, both, commands, is_paid, meet, pays, signs};
 use ln_channel::Command;
 use ln_files::FileRecords;
 use ln_keys::ToyKeys;
@@ -73,7 +73,7 @@ fn goes_on<S: RecordStore + Drop>(
     let mut story = String::new(alloc);
     meet(alloc, &mut a, &mut b, &mut story)?;
     let paid = is_paid(alloc, &a, &b)?;
-    tells(alloc, &mut a, &mut b, "fee", Command::Fee(300), &mut story)?;
+    commands(alloc, &mut a, &mut b, "fee", Command::Fee(300), &mut story)?;
     signs(alloc, &mut a, &mut b, &mut story)?;
     Ok((paid, a.summary(alloc)?.signed))
 }

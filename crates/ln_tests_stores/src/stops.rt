@@ -74,7 +74,7 @@ fn found_in<S: RecordStore>(alloc: Global, store: &mut S, case: &Case) -> Result
     Ok(Found::Other)
 }
 
-fn told_of<S: RecordStore>(alloc: Global, store: &mut S, case: &Case, work: Work) -> Said {
+fn shown_of<S: RecordStore>(alloc: Global, store: &mut S, case: &Case, work: Work) -> Said {
     match work {
         Work::Opens => Said::Opened,
         Work::Begins => answered(save_all(alloc, store, case.before).err()),
@@ -88,7 +88,7 @@ fn told_of<S: RecordStore>(alloc: Global, store: &mut S, case: &Case, work: Work
 
 /// What is told of work with a store over a database, and what is behind its connection. It is generic, as the type of
 /// a database over files is dear to name.
-fn told_over<S: Alter + Drop>(
+fn shown_over<S: Alter + Drop>(
     alloc: Global,
     connection: Connection<S>,
     case: &Case,
@@ -96,7 +96,7 @@ fn told_over<S: Alter + Drop>(
 ) -> (Said, S) {
     match SqliteStore::over(alloc, connection) {
         Ok(mut store) => {
-            let said = told_of(alloc, &mut store, case, work);
+            let said = shown_of(alloc, &mut store, case, work);
             (said, store.into_connection().into_store())
         }
         Err((_, connection)) => (Said::NotOpened, connection.into_store()),
@@ -104,13 +104,13 @@ fn told_over<S: Alter + Drop>(
 }
 
 /// What is told of work with a store over files, and the files behind it.
-fn told_with(alloc: Global, disks: Disks, case: &Case, work: Work) -> (Said, Disks)
+fn shown_with(alloc: Global, disks: Disks, case: &Case, work: Work) -> (Said, Disks)
     requires log { IsFresh disks.log × IsTrue (memory_is_usable (inner_of disks.log)) }
     requires db { IsFresh disks.db × IsTrue (memory_is_usable (inner_of disks.db)) }
 {
     match connected(alloc, disks, case.frames) {
         Ok(connection) => {
-            let (said, behind) = told_over(alloc, connection, case, work);
+            let (said, behind) = shown_over(alloc, connection, case, work);
             (said, behind.close())
         }
         Err(disks) => (Said::NotOpened, disks),
@@ -119,7 +119,7 @@ fn told_with(alloc: Global, disks: Disks, case: &Case, work: Work) -> (Said, Dis
 
 /// What a store has that is opened over files with these bytes.
 fn found_with(alloc: Global, image: &Image, case: &Case) -> Result<Found, Refusal> {
-    match told_with(alloc, image.disks(alloc, NEVER)?, case, Work::Looks) {
+    match shown_with(alloc, image.disks(alloc, NEVER)?, case, Work::Looks) {
         (Said::Has(found), _) => Ok(found),
         (Said::NotOpened, _) => Ok(Found::Other),
         _ => Err(Refusal::Store),
@@ -134,7 +134,7 @@ fn stopped(
     stop: Stop,
     case: &Case,
 ) -> Result<(Said, Found, Found), Refusal> {
-    let (answer, mut disks) = told_with(alloc, image.disks(alloc, stop)?, case, Work::Saves);
+    let (answer, mut disks) = shown_with(alloc, image.disks(alloc, stop)?, case, Work::Saves);
     let written = Image::of(alloc, &disks)?;
     disks.log.crash();
     disks.db.crash();
@@ -159,7 +159,7 @@ fn is_lawful(told: (Said, Found, Found)) -> bool {
 
 /// Whether a store is opened where a file fails from some call on.
 fn is_opened(alloc: Global, image: &Image, stop: Stop, case: &Case) -> Result<bool, Refusal> {
-    let (said, disks) = told_with(alloc, image.disks(alloc, stop)?, case, Work::Opens);
+    let (said, disks) = shown_with(alloc, image.disks(alloc, stop)?, case, Work::Opens);
     drop(disks);
     Ok(said == Said::Opened)
 }
@@ -214,7 +214,7 @@ fn stops(
 /// The files of a store with the records of before.
 fn begun(alloc: Global, case: &Case) -> Result<Image, Refusal> {
     let disks = Image::empty(alloc).disks(alloc, NEVER)?;
-    match told_with(alloc, disks, case, Work::Begins) {
+    match shown_with(alloc, disks, case, Work::Begins) {
         (Said::Saved, disks) => Image::of(alloc, &disks),
         _ => Err(Refusal::Store),
     }

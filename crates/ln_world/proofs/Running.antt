@@ -11,7 +11,7 @@ use Rattle.ln_world_channels.specs.declared.line.Line.TheVariants as line
 use Rattle.ln_world_dispatch.specs.declared.step.Step.{Step as DispatchStep}
 use Rattle.ln_world_dispatch.specs.World.{World as Dispatchers}
 use Rattle.ln_world_dispatch.specs.World as dispatchers
-use Rattle.ln_world_dispatch.specs.Seated.{Answers, Tables, Stand, Agree}
+use Rattle.ln_world_dispatch.specs.Slots.{Answers, Tables, Stand, Agree}
 use Rattle.ln_world_dispatch.specs.Hooked as dispatchers_hooked
 use Rattle.ln_world.specs.declared.step.Step.{Step}
 use Rattle.ln_world.specs.declared.follow_up.FollowUp.{FollowUp}

@@ -67,7 +67,7 @@ use Rattle.ln_world.specs.World.{World, id_of, link_by, link_there, link_at, sav
 use Rattle.ln_world.specs.World.{command_in, handed, with_decision, deciding, asked, command_by, command_of}
 use Rattle.ln_world.specs.World.{handed_out, own_act, sent_or, call_of, unbegun, asked_unbegun, plain}
 use Rattle.ln_world.specs.World.{moved_by, lines_by, entered, with_height, is_height, prepared, follow_up_of, follows}
-use Rattle.ln_world.specs.World.{answered, reported, unanswered, saved_dropped, dropped, fallen, met}
+use Rattle.ln_world.specs.World.{answered, reported, unanswered, saved_dropped, dropped, disconnected, met}
 use Rattle.ln_world.specs.World.{concluded, happens, with_verdict, plains}
 use Rattle.ln_world.specs.World.{with_resumed, resuming, resumed_at, stops_behind}
 use Rattle.ln_world.specs.Records.{IsAct, IsStep, AreWorldSteps}
@@ -494,7 +494,7 @@ module _ {K : Type 0} (k : Ghosts K) where
       (saved_dropped_so e (saved_end l.stage) b h)
 
   fallen_so : (e : End) (new : Dispatchers K) (o : Option (State K)) (xs : List NodeBook)
-      → All AreEnds new.channels.channels → All IsNode xs → All IsNode (fallen e new o xs)
+      → All AreEnds new.channels.channels → All IsNode xs → All IsNode (disconnected e new o xs)
   fallen_so e new None xs c h = h
   fallen_so e new (Some l) xs c h = follows_so e.node (dropped e l) new xs (dropped_so e l) c h
 
@@ -515,7 +515,7 @@ module _ {K : Type 0} (k : Ghosts K) where
   concluded_so (follow_up.Set n) told new xs c h = set_so n new xs c h
   concluded_so (follow_up.Act e before a) told new xs c h =
       follows_so e.node (reported e before a told new) new xs (λ b g. heard_so e before a told new b c g) c h
-  concluded_so (follow_up.Fall e) told new xs c h = fallen_so e new (link_at e new.channels.channels) xs c h
+  concluded_so (follow_up.Disconnected e) told new xs c h = fallen_so e new (link_at e new.channels.channels) xs c h
   concluded_so (follow_up.Halt e out) told new xs c h =
       follows_so e.node (unanswered e out) new xs (λ b g. unanswered_so e out b g) c h
   concluded_so (follow_up.Refuse e) told new xs c h = h

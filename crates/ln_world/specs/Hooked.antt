@@ -10,7 +10,7 @@ use Rattle.ln_world_channels.specs.declared.line.Line.{Line}
 use Rattle.ln_world_channels.specs.declared.line.Line.TheVariants as line
 use Rattle.ln_world_dispatch.specs.declared.step.Step.{Step as DispatchStep}
 use Rattle.ln_world_dispatch.specs.World.{World as Dispatchers}
-use Rattle.ln_world_dispatch.specs.Seated.{Answers, Tables, Stand, Moved}
+use Rattle.ln_world_dispatch.specs.Slots.{Answers, Tables, Stand, Moved}
 use Rattle.ln_world_dispatch.specs.Hooked as dispatchers
 use Rattle.ln_world.specs.declared.step.Step.{Step}
 use Rattle.ln_world.specs.World.{World, empty, plain, happens, run, step_lines, run_lines, SomeMayFail}

@@ -283,7 +283,7 @@ follow_up_of (step.Policy n policy) w = follow_up.Set n
 follow_up_of (step.Height n height) w = if_height height n
 follow_up_of (step.Expect n invoice) w = follow_up.Set n
 follow_up_of (step.Do e a) w = acting e (command_of e a w) (call_of e a w) (resumed_at e a w.dispatchers) w.dispatchers
-follow_up_of (step.Down e) w = follow_up.Fall e
+follow_up_of (step.Down e) w = follow_up.Disconnected e
 follow_up_of (step.NoMemory e a) w = if_begun (unbegun e a w) (follow_up.Halt e (is_take a))
 follow_up_of (step.Restart n) w = follow_up.Restart n
 follow_up_of (step.StopBefore e a) w = if_begun (unbegun e a w) (follow_up.Restart e.node)
@@ -318,9 +318,9 @@ saved_dropped e (Some x) b = with_dropped (id_of e) x b
 abbrev pub dropped : {K : Type 0} → End → State K → Book → Book
 dropped e l b = if l.halted then b else saved_dropped e (saved_end l.stage) b
 
-abbrev pub fallen : {K : Type 0} → End → Dispatchers K → Option (State K) → List NodeBook → List NodeBook
-fallen e new None xs = xs
-fallen e new (Some l) xs = follows e.node (dropped e l) new xs
+abbrev pub disconnected : {K : Type 0} → End → Dispatchers K → Option (State K) → List NodeBook → List NodeBook
+disconnected e new None xs = xs
+disconnected e new (Some l) xs = follows e.node (dropped e l) new xs
 
 -- the node's book begins anew with what its ends have, and follows them
 abbrev pub restarted : {K : Type 0} → Node → Dispatchers K → List NodeBook → List NodeBook
@@ -337,7 +337,7 @@ abbrev pub concluded : {K : Type 0} → FollowUp → List Line → Dispatchers K
 concluded follow_up.None told new xs = xs
 concluded (follow_up.Set n) told new xs = changed n (followed new.channels.channels) xs
 concluded (follow_up.Act e before a) told new xs = follows e.node (reported e before a told new) new xs
-concluded (follow_up.Fall e) told new xs = fallen e new (link_at e new.channels.channels) xs
+concluded (follow_up.Disconnected e) told new xs = disconnected e new (link_at e new.channels.channels) xs
 concluded (follow_up.Halt e out) told new xs = follows e.node (unanswered e out) new xs
 concluded (follow_up.Refuse e) told new xs = xs
 concluded (follow_up.Restart n) told new xs = restarted n new xs

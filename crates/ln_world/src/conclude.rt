@@ -4,7 +4,7 @@
 ghost use Rattle.std.specs.Prelude.{◌≡◌, ◌++◌, OnOk, IfErr, option_copied};
 ghost use Rattle.ln_msgs.specs.declared.refusals.refusal.Refusal.TheVariants as refusal;
 ghost use Rattle.ln_world.specs.Node.{changed, with_book};
-ghost use Rattle.ln_world.specs.World.{follows, answered, reported, unanswered, saved_dropped, dropped, fallen};
+ghost use Rattle.ln_world.specs.World.{follows, answered, reported, unanswered, saved_dropped, dropped, disconnected};
 ghost use Rattle.ln_world.specs.World.{restarted, met, concluded, decided_lines, tells, link_at};
 ghost use Rattle.ln_world.specs.Follow.{followed, begun_anew};
 
@@ -183,14 +183,14 @@ fn drop_at<K: ChannelKeys + Copy>(
 }
 
 // An end has lost its connection, where it is there. 60 where there is no memory.
-fn conclude_fall<K: ChannelKeys + Copy>(
+fn conclude_disconnection<K: ChannelKeys + Copy>(
     alloc: Global,
     dispatchers: &Nodes<K>,
     nodes: &mut Vec<NodeBook>,
     end: End,
 ) -> Result<(), Refusal>
     ensures concluded { OnOk result (nodes.new.items
-        ≡ fallen end dispatchers.now (link_at end dispatchers.now.channels.channels) nodes.old.items) }
+        ≡ disconnected end dispatchers.now (link_at end dispatchers.now.channels.channels) nodes.old.items) }
     ensures fails_for_memory_alone { IfErr result (λ e. e ≡ refusal.Memory) }
 {
     let Some(link) = link_at(dispatchers.channels(), end) else {
@@ -265,7 +265,7 @@ pub(crate) fn conclude<K: ChannelKeys + Copy>(
         FollowUp::Act(end, before, asked) => {
             conclude_act(alloc, dispatchers, nodes, end, before, asked, told)
         }
-        FollowUp::Fall(end) => conclude_fall(alloc, dispatchers, nodes, end),
+        FollowUp::Disconnected(end) => conclude_disconnection(alloc, dispatchers, nodes, end),
         FollowUp::Halt(end, is_out) => conclude_halt(alloc, dispatchers, nodes, end, is_out),
         FollowUp::Restart(node) => conclude_restart(alloc, dispatchers, nodes, node),
         FollowUp::Meet(number) => {

@@ -31,7 +31,7 @@ pub enum FollowUp {
     /// the end has come to hold.
     Act(End, u64, Option<PendingAnswer>),
     /// An end loses its connection: its book is told what it has kept.
-    Fall(End),
+    Disconnected(End),
     /// An end halts; whether a command of its book was handed out, which stays there.
     Halt(End, bool),
     /// The book has refused to decide what an end holds (40).

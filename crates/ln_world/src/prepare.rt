@@ -482,7 +482,7 @@ pub(crate) fn prepare<K: ChannelKeys + Copy>(
         }
         Step::Open(wish) => Ok((Some(DispatchStep::Open(wish)), FollowUp::None)),
         Step::Do(end, what) => prepare_act(alloc, dispatchers, nodes, end, what),
-        Step::Down(end) => Ok((Some(DispatchStep::Down(end)), FollowUp::Fall(end))),
+        Step::Down(end) => Ok((Some(DispatchStep::Down(end)), FollowUp::Disconnected(end))),
         Step::NoMemory(end, what) => prepare_halt(alloc, dispatchers, nodes, end, what),
         Step::Restart(node) => Ok((Some(DispatchStep::Restart(node)), FollowUp::Restart(node))),
         Step::StopBefore(end, what) => prepare_stop_before(alloc, dispatchers, nodes, end, what),

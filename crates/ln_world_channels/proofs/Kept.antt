@@ -8,7 +8,7 @@ use Rattle.ln_channel.specs.End.{end_dropped}
 use Rattle.ln_channel_laws.specs.Promises.{is_add, is_shutdown, AddsBefore}
 use Rattle.ln_world_channels.specs.Sending.{act_sends, sends}
 use Rattle.ln_world_channels.specs.Course.{along}
-use Rattle.ln_world_channels.specs.Machine.{moves_of, moves_of_fall, tells, machine_of_stages}
+use Rattle.ln_world_channels.specs.Machine.{moves_of, moves_of_disconnect, tells, machine_of_stages}
 use Rattle.ln_world_channels.proofs.Mirror.{without-append}
 use Rattle.ln_world_channels.proofs.Moves.{met_says, met_tells, lost_says}
 use Rattle.std.proofs.Common.{◌≡◌, ℕ, List, [], ◌∷◌, ◌++◌, refl, sym, ap, ◌∙◌, subst, Bool, true, false, cond}
@@ -35,7 +35,7 @@ use Rattle.ln_channel_laws.specs.Ends.{Ends, Step}
 use Rattle.ln_channel_laws.specs.Ends as pair
 use Rattle.ln_keys.specs.Partners.{ArePartners}
 use Rattle.ln_channel_laws.specs.Promises.{AreSent, Overlap, CloseAtOneFee, TakesFront as Front}
-use Rattle.ln_channel_laws.specs.Promises.{AcceptsFront as Accepted, FollowEachOther, SameMarks}
+use Rattle.ln_channel_laws.specs.Promises.{AcceptsFront as Accepted, FollowEachOther, SameReadiness}
 use Rattle.ln_channel_laws.specs.Moves.{history}
 use Rattle.ln_channel_laws.specs.Moves as pair_moves
 use Rattle.ln_channel_laws.specs.Told.{events_in, as_told}
@@ -63,15 +63,16 @@ use Rattle.ln_world_channels.specs.declared.step.Act.TheVariants as act
 use Rattle.ln_world_channels.specs.declared.step.Node.{Node}
 use Rattle.ln_world_channels.specs.Settings.{channel_id_of}
 use Rattle.ln_world_channels.specs.declared.step.End.{End as WorldEnd}
-use Rattle.ln_world_channels.specs.Both.{Both, By, Falls, Halts, Restarts, Stops, Meet, acts, swapped, moves}
+use Rattle.ln_world_channels.specs.Both.{Both, By, Disconnects, Halts, Restarts, Stops, Meet, acts, swapped, moves}
 use Rattle.ln_world_channels.specs.Both.{may_come_up}
 use Rattle.ln_world_channels.specs.Both.{run as run_both}
-use Rattle.ln_world_channels.specs.WorldChannel.{WorldChannel, by, side_of, moved, may_meet, act_moves, fall_moves}
+use Rattle.ln_world_channels.specs.WorldChannel.{WorldChannel, by, side_of, moved, may_meet, act_moves}
+use Rattle.ln_world_channels.specs.WorldChannel.{disconnect_moves}
 use Rattle.ln_world_channels.specs.WorldChannel.{restart_moves}
 use Rattle.ln_world_channels.specs.WorldChannel.{halt_moves, stop_moves, up_moves, place_of}
 use Rattle.ln_world_channels.specs.Promises.{AtEnd, AtEnds, Headline, TakesFront, NoneRefused, AgreeOnceSigned, Agrees}
 use Rattle.ln_world_channels.specs.Promises.{FeesOverlap, AcceptsFront, AllTaken, OneFee, HaveAnswered, AnswersShutdown}
-use Rattle.ln_world_channels.specs.Promises.{MarksAgree, BothClose}
+use Rattle.ln_world_channels.specs.Promises.{ReadinessAgrees, BothClose}
 use Rattle.ln_world_channels.specs.Records.{IsAct}
 use Rattle.ln_world_channels.proofs.Mirror.{link_of, without_warnings, IsInbox, Mirrors, flipped, plain}
 use Rattle.ln_world_channels.proofs.Mirror.{is_awake, unless_halted}
@@ -220,7 +221,7 @@ as_wide side (act.Send (command.Resume event mark)) h = h
 
 abbrev pub IsMove : Move → Type 0
 IsMove (By side a) = IsAct a
-IsMove (Falls side) = Unit {0}
+IsMove (Disconnects side) = Unit {0}
 IsMove (Halts side) = Unit {0}
 IsMove (Restarts side) = Unit {0}
 IsMove (Stops side a) = IsAct a
@@ -713,25 +714,25 @@ module _ {K : Type 0} (signer : K → Signer) where
   lost_went : (id : List ℕ) (side : Role) (p p' : Both K) (r : IsRun id p)
       → Mirrors id r.funders r.fundees p' (pair.happens (signer r.funders) (signer r.fundees)
       (pair.By side pair.Lose) (ends_of id p r))
-      → Went id p p' r (tale_of id (Falls side) p) (Unit {0})
+      → Went id p p' r (tale_of id (Disconnects side) p) (Unit {0})
   lost_went id Funder p p' r h =
       let q = ends_of id p r in
       let said = lost_says (is_down q.x_line) q (record q { x_line = Down; x = end_dropped q.x; to_x = [] }) refl
       refl in
-      went_so id p p' r (pair.By Funder pair.Lose) (tale_of id (Falls Funder) p) tt h
+      went_so id p p' r (pair.By Funder pair.Lose) (tale_of id (Disconnects Funder) p) tt h
       (said.0 ∙ silently q.said_x [] refl) (said.1 ∙ silently q.said_y [] refl)
-      (ap (λ (l : State K). moves_of_fall Funder l.connection) (sym r.mirrors.x_link)) refl refl
+      (ap (λ (l : State K). moves_of_disconnect Funder l.connection) (sym r.mirrors.x_link)) refl refl
   lost_went id Fundee p p' r h =
       let q = ends_of id p r in
       let t = pair.turned q in
       let said = lost_says (is_down t.x_line) t (record t { x_line = Down; x = end_dropped t.x; to_x = [] }) refl
       refl in
-      went_so id p p' r (pair.By Fundee pair.Lose) (tale_of id (Falls Fundee) p) tt h
+      went_so id p p' r (pair.By Fundee pair.Lose) (tale_of id (Disconnects Fundee) p) tt h
       (said.1 ∙ silently q.said_x [] refl) (said.0 ∙ silently q.said_y [] refl)
-      (ap (λ (l : State K). moves_of_fall Fundee l.connection) (sym r.mirrors.y_link)) refl refl
+      (ap (λ (l : State K). moves_of_disconnect Fundee l.connection) (sym r.mirrors.y_link)) refl refl
 
   fallen_went : (id : List ℕ) (side : Role) (p : Both K) (r : IsRun id p)
-      → Went id p (moves signer id (Falls side) p) r (tale_of id (Falls side) p) (Unit {0})
+      → Went id p (moves signer id (Disconnects side) p) r (tale_of id (Disconnects side) p) (Unit {0})
   unfolding moves
   fallen_went id Funder p r =
       lost_went id Funder p _ r (fell signer id r.funders r.fundees p (ends_of id p r) r.mirrors)
@@ -787,7 +788,7 @@ module _ {K : Type 0} (signer : K → Signer) where
   -- those that the table gives: a connection joins ends that are both down, and haven't halted
   abbrev pub is_possible : Move → Both K → Bool
   is_possible (By side a) p = true
-  is_possible (Falls side) p = true
+  is_possible (Disconnects side) p = true
   is_possible (Halts side) p = true
   is_possible (Restarts side) p = true
   is_possible (Stops side a) p = true
@@ -800,7 +801,7 @@ module _ {K : Type 0} (signer : K → Signer) where
   pub went : (id : List ℕ) (m : Move) (p : Both K) → is_possible m p ≡ true → (r : IsRun id p)
       → Went id p (moves signer id m p) r (tale_of id m p) (IsMove m)
   went id (By side a) p e r = acted_went id side a p r
-  went id (Falls side) p e r = fallen_went id side p r
+  went id (Disconnects side) p e r = fallen_went id side p r
   went id (Halts side) p e r = halted_went id side p r
   went id (Restarts side) p e r = restarted_went id side p r
   went id (Stops side a) p e r = stopped_went id side a p r
@@ -913,7 +914,8 @@ module _ {K : Type 0} (signer : K → Signer) where
   acted_by id None a p r = r
   acted_by id (Some side) a p r = (acted_went id side a p r).run
 
-  fallen_by : (id : List ℕ) (o : Option Role) (p : Both K) → IsRun id p → IsRun id (run_both signer id (by o Falls) p)
+  fallen_by : (id : List ℕ) (o : Option Role) (p : Both K) → IsRun id p
+      → IsRun id (run_both signer id (by o Disconnects) p)
   fallen_by id None p r = r
   fallen_by id (Some side) p r = (fallen_went id side p r).run
 
@@ -944,7 +946,7 @@ module _ {K : Type 0} (signer : K → Signer) where
   pub act_kept : (n : Node) (a : Act) (c : WorldChannel K) → IsOpen c → IsOpen (moved signer (act_moves n a) c)
   act_kept n a c h = acted_by (channel_id_of c.number) (side_of n c) a c.both h
 
-  pub fall_kept : (n : Node) (c : WorldChannel K) → IsOpen c → IsOpen (moved signer (fall_moves n) c)
+  pub fall_kept : (n : Node) (c : WorldChannel K) → IsOpen c → IsOpen (moved signer (disconnect_moves n) c)
   fall_kept n c h = fallen_by (channel_id_of c.number) (side_of n c) c.both h
 
   pub halt_kept : (n : Node) (c : WorldChannel K) → IsOpen c → IsOpen (moved signer (halt_moves n) c)
@@ -992,11 +994,11 @@ module _ {K : Type 0} (signer : K → Signer) where
         y = y;
       }))
 
-  pub marks_agree : (id : List ℕ) (p : Both K) → IsRun id p → MarksAgree p
-  marks_agree id p r quiet =
+  pub readiness_agrees : (id : List ℕ) (p : Both K) → IsRun id p → ReadinessAgrees p
+  readiness_agrees id p r quiet =
       let h = r.mirrors in
-      at_links id r.funders r.fundees SameMarks p (ends_of id p r) h
-      (offered.marks_agree (signer r.funders) (signer r.fundees) r.spec r.config r.funder r.fundee r.steps r.keys
+      at_links id r.funders r.fundees SameReadiness p (ends_of id p r) h
+      (offered.readiness_agrees (signer r.funders) (signer r.fundees) r.spec r.config r.funder r.fundee r.steps r.keys
       r.opens (record {
         x_met = ap (λ (l : State K). l.connection) (sym h.x_link) ∙ quiet.x_met;
         y_met = ap (λ (l : State K). l.connection) (sym h.y_link) ∙ quiet.y_met;

@@ -31,11 +31,11 @@ use Rattle.ln_world_channels.specs.declared.step.Open.{Open}
 use Rattle.ln_world_channels.specs.declared.step.Step.{Step}
 use Rattle.ln_world_channels.specs.declared.step.Step.TheVariants as step
 use Rattle.ln_world_channels.specs.Settings.{channel_id_of, may_bring}
-use Rattle.ln_world_channels.specs.Both.{Both, SimEnd, By, Falls, Halts, Restarts, Stops, Meet, reaches, left}
+use Rattle.ln_world_channels.specs.Both.{Both, SimEnd, By, Disconnects, Halts, Restarts, Stops, Meet, reaches, left}
 use Rattle.ln_world_channels.specs.Both.{unchanged, acts}
 use Rattle.ln_world_channels.specs.Both.{delivers, greeted, back, restarted, swapped, moves, run as run_both}
 use Rattle.ln_world_channels.specs.WorldChannel.{WorldChannel, by, side_of, is_node, moved, may_meet, act_moves}
-use Rattle.ln_world_channels.specs.WorldChannel.{fall_moves}
+use Rattle.ln_world_channels.specs.WorldChannel.{disconnect_moves}
 use Rattle.ln_world_channels.specs.WorldChannel.{halt_moves, restart_moves, stop_moves, up_moves, opened_by}
 use Rattle.ln_world_channels.specs.World.{World, settings_of, channel, may_open, may_be_done, happens, empty}
 use Rattle.ln_world_channels.specs.World.{run as run_world}
@@ -238,7 +238,8 @@ module _ {K : Type 0} (signer : K → Signer) where
       let q = acts signer id a (swapped p) in
       (h.0, restarted_exact q.x (acts_exact id a (swapped p) (y_longest id (swapped q) r) h.1))
 
-  falls_exact : (id : List ℕ) (side : Role) (p : Both K) → BothExact p → BothExact (moves signer id (Falls side) p)
+  falls_exact : (id : List ℕ) (side : Role) (p : Both K) → BothExact p
+      → BothExact (moves signer id (Disconnects side) p)
   unfolding moves
   falls_exact id Funder p h = (drops_exact p.x.link h.0, h.1)
   falls_exact id Fundee p h = (h.0, drops_exact p.y.link h.1)
@@ -279,10 +280,10 @@ module _ {K : Type 0} (signer : K → Signer) where
       by_side None r = h.1
       by_side (Some side) r = by_exact (channel_id_of c.number) side a c.both r h.1
 
-  fall_lasts : (n : Node) (c : WorldChannel K) → IsLasting c → IsLasting (moved signer (fall_moves n) c)
+  fall_lasts : (n : Node) (c : WorldChannel K) → IsLasting c → IsLasting (moved signer (disconnect_moves n) c)
   fall_lasts n c h = (fall_kept signer n c h.0, by_side (side_of n c))
     where
-      by_side : (o : Option Role) → BothExact (run_both signer (channel_id_of c.number) (by o Falls) c.both)
+      by_side : (o : Option Role) → BothExact (run_both signer (channel_id_of c.number) (by o Disconnects) c.both)
       by_side None = h.1
       by_side (Some side) = falls_exact (channel_id_of c.number) side c.both h.1
 
@@ -350,7 +351,7 @@ module _ {K : Type 0} (k : Ghosts K) where
   lasts (step.Open o) w h = opens_by (may_open o w) o w refl h
   lasts (step.Do e a) w h = moved_so k (IsLasting k.signer) e.channel (act_moves e.node a)
       (act_lasts k.signer e.node a) w.channels h
-  lasts (step.Down e) w h = moved_so k (IsLasting k.signer) e.channel (fall_moves e.node)
+  lasts (step.Down e) w h = moved_so k (IsLasting k.signer) e.channel (disconnect_moves e.node)
       (fall_lasts k.signer e.node) w.channels h
   lasts (step.NoMemory e a) w h = there_so k (IsLasting k.signer) (may_be_done e a w.channels) e.channel
       (halt_moves e.node) (halt_lasts k.signer e.node) w h

@@ -45,7 +45,7 @@ use Rattle.ln_world_channels.specs.Machine.{outputs_of, delivery_tells, act_tell
 use Rattle.ln_world_channels.specs.Lines.{replies}
 use Rattle.ln_link.specs.Saving.{settled}
 use Rattle.ln_world_channels.specs.Both.{Both, SimEnd, reaches, left, sent_by, unchanged, answers, delivers, acts}
-use Rattle.ln_world_channels.specs.Both.{falls}
+use Rattle.ln_world_channels.specs.Both.{disconnects}
 use Rattle.ln_world_channels.specs.Both.{halts, restarts, back, first_message, greets, greeted, comes_up, meet}
 use Rattle.ln_world_channels.proofs.Named.{Names, IsFine, IsFineRow, fine_at, fine_command}
 use Rattle.ln_world_channels.proofs.Silent.{IsSilentRow, silent_at}
@@ -604,7 +604,7 @@ module _ {K : Type 0} (signer : K → Signer) (id : List ℕ) (kx ky : K) where
   -- ---- a connection is lost
 
   falls_by : (b : Bool) (p : Both K) (q : Ends) → is_down q.x_line ≡ b → Mirrors id kx ky p q
-      → Mirrors id kx ky (falls p) (cond b q (record q { x_line = Down; x = end_dropped q.x; to_x = [] }))
+      → Mirrors id kx ky (disconnects p) (cond b q (record q { x_line = Down; x = end_dropped q.x; to_x = [] }))
   falls_by true p q e h = record {
     x_halted = h.x_halted;
     y_halted = h.y_halted;
@@ -641,7 +641,7 @@ module _ {K : Type 0} (signer : K → Signer) (id : List ℕ) (kx ky : K) where
   }
 
   pub fell : (p : Both K) (q : Ends) → Mirrors id kx ky p q
-      → Mirrors id kx ky (falls p) (pair.acts (signer kx) Lose q)
+      → Mirrors id kx ky (disconnects p) (pair.acts (signer kx) Lose q)
   fell p q h = falls_by (is_down q.x_line) p q refl h
 
   was_down : (l : ConnectionState) → is_down l ≡ true → l ≡ Down

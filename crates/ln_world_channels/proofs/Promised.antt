@@ -25,13 +25,13 @@ use Rattle.ln_world_channels.specs.declared.settings.Settings.{Settings}
 use Rattle.ln_world_channels.specs.Settings.{config_of, spec_of, txid_of, channel_id_of, opening_by, are_ordered}
 use Rattle.ln_world_channels.specs.Settings.{may_bring, may_ask, can_be_told, CanBring, CanBeTold}
 use Rattle.ln_world_channels.specs.Both.{Both, Move}
-use Rattle.ln_world_channels.specs.WorldChannel.{WorldChannel, is_node, moved, opened_by, act_moves, fall_moves}
+use Rattle.ln_world_channels.specs.WorldChannel.{WorldChannel, is_node, moved, opened_by, act_moves, disconnect_moves}
 use Rattle.ln_world_channels.specs.WorldChannel.{restart_moves, up_moves, halt_moves, stop_moves}
 use Rattle.ln_world_channels.specs.World.{World, settings_of, channel, moved_at, all_moved, may_open, happens}
 use Rattle.ln_world_channels.specs.World.{at, everywhere, may_be_done, empty, run}
 use Rattle.ln_world_channels.specs.Promises.{Headline, NoneRefused, AllTaken, OneFee, Agrees, Each}
 use Rattle.ln_world_channels.specs.Promises.{OfEach}
-use Rattle.ln_world_channels.specs.Promises.{AnswersShutdown, MarksAgree, BothClose, DoExactly}
+use Rattle.ln_world_channels.specs.Promises.{AnswersShutdown, ReadinessAgrees, BothClose, DoExactly}
 use Rattle.ln_world_channels.proofs.Fitting.{funders, fundees}
 use Rattle.ln_world_channels.proofs.Opened.{first_saves, mirrored, fees_so, opening_so}
 use Rattle.ln_world_channels.proofs.Kept.{IsRun, IsOpen, act_kept, fall_kept, halt_kept, restart_kept, stop_kept}
@@ -240,7 +240,7 @@ module _ {K : Type 0} (k : Ghosts K) where
   happened (step.Do e a) w h =
       moved_so (IsOpen k.signer) e.channel (act_moves e.node a) (act_kept k.signer e.node a) w.channels h
   happened (step.Down e) w h =
-      moved_so (IsOpen k.signer) e.channel (fall_moves e.node) (fall_kept k.signer e.node) w.channels h
+      moved_so (IsOpen k.signer) e.channel (disconnect_moves e.node) (fall_kept k.signer e.node) w.channels h
   happened (step.NoMemory e a) w h =
       there_so (IsOpen k.signer) (may_be_done e a w.channels) e.channel (halt_moves e.node)
       (halt_kept k.signer e.node) w h
@@ -278,8 +278,8 @@ module _ {K : Type 0} (k : Ghosts K) where
   pub both_close : (ss : List (Step K k)) → OfEach BothClose (run k ss empty)
   both_close ss = of_each BothClose (channels.both_close k.signer) (run k ss empty).channels (kept ss)
 
-  pub marks_agree : (ss : List (Step K k)) → OfEach MarksAgree (run k ss empty)
-  marks_agree ss = of_each MarksAgree (channels.marks_agree k.signer) (run k ss empty).channels (kept ss)
+  pub readiness_agrees : (ss : List (Step K k)) → OfEach ReadinessAgrees (run k ss empty)
+  readiness_agrees ss = of_each ReadinessAgrees (channels.readiness_agrees k.signer) (run k ss empty).channels (kept ss)
 
   pub all_taken : (ss : List (Step K k)) → OfEach (AllTaken k.signer) (run k ss empty)
   all_taken ss = of_each (AllTaken k.signer) (channels.all_accepted k.signer) (run k ss empty).channels

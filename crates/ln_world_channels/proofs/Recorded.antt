@@ -24,11 +24,11 @@ use Rattle.ln_world_channels.specs.declared.step.Step.{Step}
 use Rattle.ln_world_channels.specs.declared.step.Step.TheVariants as step
 use Rattle.ln_world_channels.specs.declared.settings.Settings.{Settings}
 use Rattle.ln_world_channels.specs.Settings.{channel_id_of, may_bring, CanBring}
-use Rattle.ln_world_channels.specs.Both.{Both, Move, By, Falls, Halts, Restarts, Stops, Meet, moves, unheard}
+use Rattle.ln_world_channels.specs.Both.{Both, Move, By, Disconnects, Halts, Restarts, Stops, Meet, moves, unheard}
 use Rattle.ln_world_channels.specs.Both.{run as run_both}
 use Rattle.ln_world_channels.specs.WorldChannel.{WorldChannel, is_node, by, side_of, moved, may_meet, opened_by}
 use Rattle.ln_world_channels.specs.WorldChannel.{act_moves}
-use Rattle.ln_world_channels.specs.WorldChannel.{fall_moves, halt_moves, restart_moves, stop_moves, up_moves}
+use Rattle.ln_world_channels.specs.WorldChannel.{disconnect_moves, halt_moves, restart_moves, stop_moves, up_moves}
 use Rattle.ln_world_channels.specs.WorldChannel.{acted_unheard, side_unheard, place_of, opening_moves}
 use Rattle.ln_world_channels.specs.World.{World, settings_of, channel, may_open, joined, happens, may_be_done}
 use Rattle.ln_world_channels.specs.World.{empty, run}
@@ -135,8 +135,9 @@ module _ {K : Type 0} (k : Ghosts K) where
       moved_so k IsFitChannel e.channel (act_moves e.node a) (kept_by (act_moves e.node a) (acts_possible k e.node a)
       (λ c. bring_by (side_of e.node c) (λ side. By side a) (λ side. is))) w.channels h
   stays_fit (step.Down e) w is h =
-      moved_so k IsFitChannel e.channel (fall_moves e.node) (kept_by (fall_moves e.node) (falls_possible k e.node)
-      (λ c. bring_by (side_of e.node c) Falls (λ side. tt))) w.channels h
+      moved_so k IsFitChannel e.channel (disconnect_moves e.node)
+      (kept_by (disconnect_moves e.node) (falls_possible k e.node)
+      (λ c. bring_by (side_of e.node c) Disconnects (λ side. tt))) w.channels h
   stays_fit (step.NoMemory e a) w is h =
       there_so k IsFitChannel (may_be_done e a w.channels) e.channel (halt_moves e.node) (kept_by (halt_moves e.node)
       (halts_possible k e.node) (λ c. bring_by (side_of e.node c) Halts (λ side. tt))) w h

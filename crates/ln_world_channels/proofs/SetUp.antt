@@ -14,7 +14,7 @@ use Rattle.ln_world_channels.specs.declared.step.Step.TheVariants as step
 use Rattle.ln_world_channels.specs.Settings.{channel_id_of, may_bring, CanBring}
 use Rattle.ln_world_channels.specs.Both.{Both, Move}
 use Rattle.ln_world_channels.specs.Both.{run as run_both}
-use Rattle.ln_world_channels.specs.WorldChannel.{WorldChannel, is_node, moved, opened_by, act_moves, fall_moves}
+use Rattle.ln_world_channels.specs.WorldChannel.{WorldChannel, is_node, moved, opened_by, act_moves, disconnect_moves}
 use Rattle.ln_world_channels.specs.WorldChannel.{restart_moves, up_moves, halt_moves, stop_moves}
 use Rattle.ln_world_channels.specs.World.{World, settings_of, channel, moved_if, moved_at, all_moved, may_open, joined}
 use Rattle.ln_world_channels.specs.World.{happens}
@@ -160,7 +160,7 @@ module _ {K : Type 0} (k : Ghosts K) where
   step_stands n (step.Do e a) w ds h =
       goes e.channel (act_moves e.node a) n w.channels ds (acts_possible k e.node a) h
   step_stands n (step.Down e) w ds h =
-      goes e.channel (fall_moves e.node) n w.channels ds (falls_possible k e.node) h
+      goes e.channel (disconnect_moves e.node) n w.channels ds (falls_possible k e.node) h
   step_stands n (step.NoMemory e a) w ds h =
       halts (may_be_done e a w.channels) e.channel (halt_moves e.node) n w ds (halts_possible k e.node) h
   step_stands n (step.Restart m) w ds h =

@@ -22,10 +22,10 @@ use Rattle.ln_world_channels.specs.declared.step.Step.{Step}
 use Rattle.ln_world_channels.specs.declared.step.Step.TheVariants as step
 use Rattle.ln_world_channels.specs.Settings.{channel_id_of, opening_by, may_bring}
 use Rattle.ln_world_channels.specs.declared.step.End.{End}
-use Rattle.ln_world_channels.specs.Both.{Both, Move, By, Falls, Halts, Restarts, Stops, Meet}
+use Rattle.ln_world_channels.specs.Both.{Both, Move, By, Disconnects, Halts, Restarts, Stops, Meet}
 use Rattle.ln_world_channels.specs.WorldChannel.{WorldChannel, is_node, by, side_of, moved, may_meet, opened_by}
 use Rattle.ln_world_channels.specs.WorldChannel.{act_moves}
-use Rattle.ln_world_channels.specs.WorldChannel.{fall_moves, halt_moves, restart_moves, stop_moves, up_moves}
+use Rattle.ln_world_channels.specs.WorldChannel.{disconnect_moves, halt_moves, restart_moves, stop_moves, up_moves}
 use Rattle.ln_world_channels.specs.World.{World, settings_of, channel, moved_if, moved_at, all_moved, may_open, joined}
 use Rattle.ln_world_channels.specs.World.{happens}
 use Rattle.ln_world_channels.specs.World.{at, everywhere, may_be_done, empty, run}
@@ -114,8 +114,8 @@ module _ {K : Type 0} (k : Ghosts K) where
   acts_possible n a c =
       by_possible (channel_id_of c.number) c.both (side_of n c) (λ side. By side a) (λ side. (refl, tt))
 
-  pub falls_possible : (n : Node) → MayMake (fall_moves n)
-  falls_possible n c = by_possible (channel_id_of c.number) c.both (side_of n c) Falls (λ side. (refl, tt))
+  pub falls_possible : (n : Node) → MayMake (disconnect_moves n)
+  falls_possible n c = by_possible (channel_id_of c.number) c.both (side_of n c) Disconnects (λ side. (refl, tt))
 
   pub halts_possible : (n : Node) → MayMake (halt_moves n)
   halts_possible n c = by_possible (channel_id_of c.number) c.both (side_of n c) Halts (λ side. (refl, tt))
@@ -271,7 +271,7 @@ module _ {K : Type 0} (k : Ghosts K) where
   step_told n (step.Do e a) w t h =
       goes_so (step.Do e a) w e.channel (act_moves e.node a) n w.channels t (acts_possible e.node a) (λ c. refl) h
   step_told n (step.Down e) w t h =
-      goes_so (step.Down e) w e.channel (fall_moves e.node) n w.channels t (falls_possible e.node) (λ c. refl) h
+      goes_so (step.Down e) w e.channel (disconnect_moves e.node) n w.channels t (falls_possible e.node) (λ c. refl) h
   step_told n (step.NoMemory e a) w t h =
       halts_so (may_be_done e a w.channels) (step.NoMemory e a) w e.channel (halt_moves e.node) n t
       (halts_possible e.node) (λ c. refl) h

@@ -102,11 +102,11 @@ act_lines signer e id act.Deliver p = delivered_lines signer e id p.inbox p.link
 act_lines signer e id (act.Send c) p = answer_lines e id (commanded (signer p.link.keys) p.link c)
 
 -- an end loses its connection, and what is in flight to it
-abbrev pub fallen : {K : Type 0} → SimEnd K → SimEnd K
-fallen p = record { keys = p.keys; link = drops p.link; inbox = [] }
+abbrev pub disconnected : {K : Type 0} → SimEnd K → SimEnd K
+disconnected p = record { keys = p.keys; link = drops p.link; inbox = [] }
 
-abbrev pub falls : {K : Type 0} → Both K → Both K
-falls p = record { x = fallen p.x; y = p.y }
+abbrev pub disconnects : {K : Type 0} → Both K → Both K
+disconnects p = record { x = disconnected p.x; y = p.y }
 
 -- ---- an end has no memory for what it was to do
 
@@ -182,7 +182,7 @@ may_come_up l = is_down l.connection && not l.halted
 
 pub data Move : Type 0 where
   By : (side : Role) (act : Act) → Move
-  Falls : (side : Role) → Move
+  Disconnects : (side : Role) → Move
   Halts : (side : Role) → Move
   Restarts : (side : Role) → Move
   Stops : (side : Role) (act : Act) → Move
@@ -195,7 +195,7 @@ from Fundee f p = swapped (f (swapped p))
 
 unfoldable pub moves : {K : Type 0} → (K → Signer) → List ℕ → Move → Both K → Both K
 moves signer id (By side act) p = from side (acts signer id act) p
-moves signer id (Falls side) p = from side falls p
+moves signer id (Disconnects side) p = from side disconnects p
 moves signer id (Halts side) p = from side halts p
 moves signer id (Restarts side) p = from side restarts p
 moves signer id (Stops side act) p = from side (stops signer id act) p

@@ -6,7 +6,7 @@ use Rattle.ln_world_channels.specs.declared.step.Step.{Step}
 use Rattle.ln_world_channels.specs.declared.step.Step.TheVariants as step
 use Rattle.ln_world_channels.specs.Settings.{channel_id_of}
 use Rattle.ln_world_channels.specs.Both.{Both, Move, moves}
-use Rattle.ln_world_channels.specs.WorldChannel.{WorldChannel, act_moves, fall_moves, halt_moves, restart_moves}
+use Rattle.ln_world_channels.specs.WorldChannel.{WorldChannel, act_moves, disconnect_moves, halt_moves, restart_moves}
 use Rattle.ln_world_channels.specs.WorldChannel.{stop_moves}
 use Rattle.ln_world_channels.specs.WorldChannel.{up_moves}
 use Rattle.ln_world_channels.specs.World.{World, happens, may_be_done}
@@ -17,7 +17,7 @@ step_moves k (step.Fees n fees) w c = []
 step_moves k (step.Limits n limits) w c = []
 step_moves k (step.Open o) w c = []
 step_moves k (step.Do e a) w c = if c.number == e.channel then act_moves e.node a c else []
-step_moves k (step.Down e) w c = if c.number == e.channel then fall_moves e.node c else []
+step_moves k (step.Down e) w c = if c.number == e.channel then disconnect_moves e.node c else []
 step_moves k (step.NoMemory e a) w c =
     if may_be_done e a w.channels then (if c.number == e.channel then halt_moves e.node c else []) else []
 step_moves k (step.Restart n) w c = restart_moves n c

@@ -29,7 +29,8 @@ use Rattle.ln_world_channels.specs.declared.step.Act.TheVariants as act
 use Rattle.ln_world_channels.specs.declared.step.Step.{Step}
 use Rattle.ln_world_channels.specs.declared.step.Step.TheVariants as step
 use Rattle.ln_world_channels.specs.Settings.{opening_by}
-use Rattle.ln_world_channels.specs.Both.{Both, SimEnd, Move, By, Falls, Halts, Restarts, Stops, Meet, first_message}
+use Rattle.ln_world_channels.specs.Both.{Both, SimEnd, Move, By, Disconnects, Halts, Restarts, Stops, Meet}
+use Rattle.ln_world_channels.specs.Both.{first_message}
 use Rattle.ln_world_channels.specs.WorldChannel.{WorldChannel, place_of}
 use Rattle.ln_world_channels.specs.World.{World, empty, channel, settings_of, may_open}
 use Rattle.ln_world_channels.specs.Promises.{AtEnd}
@@ -85,18 +86,18 @@ moves_of_act signer side (act.Send c) p =
     moves_of_command side c p.link.stage (commanded (signer p.link.keys) p.link c)
 
 -- a lost connection drops what no signature covers; an end that has no memory loses it, and a restart is one
-abbrev pub moves_of_fall : Role → ConnectionState → List machine.Move
-moves_of_fall side l = if is_down l then [] else Drop side ∷ []
+abbrev pub moves_of_disconnect : Role → ConnectionState → List machine.Move
+moves_of_disconnect side l = if is_down l then [] else Drop side ∷ []
 
 -- behind an act a stop is one too: no act makes a connection, or ends one
 abbrev pub moves_of_stop : {K : Type 0} → (K → Signer) → Role → Act → SimEnd K → List machine.Move
-moves_of_stop signer side a p = moves_of_act signer side a p ++ moves_of_fall side p.link.connection
+moves_of_stop signer side a p = moves_of_act signer side a p ++ moves_of_disconnect side p.link.connection
 
 abbrev pub moves_of : {K : Type 0} → (K → Signer) → Move → Both K → List machine.Move
 moves_of signer (By side a) p = moves_of_act signer side a (place_of side p)
-moves_of signer (Falls side) p = moves_of_fall side (place_of side p).link.connection
-moves_of signer (Halts side) p = moves_of_fall side (place_of side p).link.connection
-moves_of signer (Restarts side) p = moves_of_fall side (place_of side p).link.connection
+moves_of signer (Disconnects side) p = moves_of_disconnect side (place_of side p).link.connection
+moves_of signer (Halts side) p = moves_of_disconnect side (place_of side p).link.connection
+moves_of signer (Restarts side) p = moves_of_disconnect side (place_of side p).link.connection
 moves_of signer (Stops side a) p = moves_of_stop signer side a (place_of side p)
 moves_of signer Meet p = []
 
@@ -133,7 +134,7 @@ act_tells signer (act.Send c) p = outputs_of (commanded (signer p.link.keys) p.l
 abbrev pub tells : {K : Type 0} → (K → Signer) → Role → Move → Both K → List Output
 tells signer Funder (By Funder a) p = act_tells signer a p.x
 tells signer Funder (By Fundee a) p = []
-tells signer Funder (Falls side) p = []
+tells signer Funder (Disconnects side) p = []
 tells signer Funder (Halts side) p = []
 tells signer Funder (Restarts side) p = []
 tells signer Funder (Stops Funder a) p = act_tells signer a p.x
@@ -141,7 +142,7 @@ tells signer Funder (Stops Fundee a) p = []
 tells signer Funder Meet p = outputs_of (first_message signer p.x.link)
 tells signer Fundee (By Funder a) p = []
 tells signer Fundee (By Fundee a) p = act_tells signer a p.y
-tells signer Fundee (Falls side) p = []
+tells signer Fundee (Disconnects side) p = []
 tells signer Fundee (Halts side) p = []
 tells signer Fundee (Restarts side) p = []
 tells signer Fundee (Stops Funder a) p = []

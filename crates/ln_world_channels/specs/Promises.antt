@@ -16,7 +16,7 @@ use Rattle.ln_channel.specs.End.{End}
 use Rattle.ln_channel.specs.State.{State}
 use Rattle.ln_channel.specs.Step.{handled, commanded, is_of_records}
 use Rattle.ln_channel_laws.specs.Promises.{FollowEachOther, IsTaken, IsTakenButForItsFee, Overlap, CloseAtOneFee}
-use Rattle.ln_channel_laws.specs.Promises.{HoldTheSame, SameMarks}
+use Rattle.ln_channel_laws.specs.Promises.{HoldTheSame, SameReadiness}
 use Rattle.ln_channel_laws.specs.Answers.{HasAnswered}
 use Rattle.ln_channel_laws.specs.Closes.{CloseOnceDone}
 use Rattle.ln_channel_laws.specs.Moves.{machine_by}
@@ -98,8 +98,8 @@ Agrees p = IsQuiet p → AtEnds AgreeOnceSigned p.x.link.stage p.y.link.stage
 
 -- ---- where nothing is in flight, either end has taken the other's shutdown and channel_ready where they were sent
 
-abbrev pub MarksAgree : {K : Type 0} → Both K → Type 0
-MarksAgree p = IsQuiet p → AtEnds SameMarks p.x.link.stage p.y.link.stage
+abbrev pub ReadinessAgrees : {K : Type 0} → Both K → Type 0
+ReadinessAgrees p = IsQuiet p → AtEnds SameReadiness p.x.link.stage p.y.link.stage
 
 -- ---- where the closing fees of both ends overlap, nothing is in flight, both have shut down and nothing is left to
 -- settle, both have closed

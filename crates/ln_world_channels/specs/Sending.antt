@@ -12,7 +12,8 @@ use Rattle.ln_channel_laws.specs.Promises.{AddsBefore}
 use Rattle.ln_world_channels.specs.declared.step.Act.{Act}
 use Rattle.ln_world_channels.specs.declared.step.Act.TheVariants as act
 use Rattle.ln_world_channels.specs.declared.step.Step.{Step}
-use Rattle.ln_world_channels.specs.Both.{Both, SimEnd, Move, By, Falls, Halts, Restarts, Stops, Meet, sent_by, greets}
+use Rattle.ln_world_channels.specs.Both.{Both, SimEnd, Move, By, Disconnects, Halts, Restarts, Stops, Meet}
+use Rattle.ln_world_channels.specs.Both.{sent_by, greets}
 use Rattle.ln_world_channels.specs.Both.{first_message}
 use Rattle.ln_world_channels.specs.World.{World, channel}
 use Rattle.ln_world_channels.specs.Course.{in_channel, over}
@@ -31,7 +32,7 @@ act_sends signer id (act.Send c) p = sent_by id (commanded (signer p.link.keys) 
 abbrev pub sends : {K : Type 0} → (K → Signer) → Role → List ℕ → Move → Both K → List Message
 sends signer Funder id (By Funder a) p = act_sends signer id a p.x
 sends signer Funder id (By Fundee a) p = []
-sends signer Funder id (Falls side) p = []
+sends signer Funder id (Disconnects side) p = []
 sends signer Funder id (Halts side) p = []
 sends signer Funder id (Restarts side) p = []
 sends signer Funder id (Stops Funder a) p = act_sends signer id a p.x
@@ -39,7 +40,7 @@ sends signer Funder id (Stops Fundee a) p = []
 sends signer Funder id Meet p = greets (first_message signer p.x.link)
 sends signer Fundee id (By Funder a) p = []
 sends signer Fundee id (By Fundee a) p = act_sends signer id a p.y
-sends signer Fundee id (Falls side) p = []
+sends signer Fundee id (Disconnects side) p = []
 sends signer Fundee id (Halts side) p = []
 sends signer Fundee id (Restarts side) p = []
 sends signer Fundee id (Stops Funder a) p = []

@@ -19,7 +19,7 @@ use Rattle.ln_world_channels.specs.declared.line.Line.TheVariants as line
 use Rattle.ln_world_channels.specs.declared.line.EndLine.{EndLine}
 use Rattle.ln_world_channels.specs.Settings.{defaults, may_bring}
 use Rattle.ln_world_channels.specs.Both.{Move}
-use Rattle.ln_world_channels.specs.WorldChannel.{WorldChannel, is_node, moved, opened_by, act_moves, fall_moves}
+use Rattle.ln_world_channels.specs.WorldChannel.{WorldChannel, is_node, moved, opened_by, act_moves, disconnect_moves}
 use Rattle.ln_world_channels.specs.WorldChannel.{restart_moves, up_moves, end_of, side_of, acted_lines, fallen_lines}
 use Rattle.ln_world_channels.specs.WorldChannel.{met_lines, stop_moves, may_act, acted_unheard, halt_moves}
 
@@ -141,7 +141,7 @@ happens k (step.Fees n fees) w = set_for n (record (settings_of n w.settings) { 
 happens k (step.Limits n limits) w = set_for n (record (settings_of n w.settings) { limits = limits }) w
 happens k (step.Open o) w = opens k o w
 happens k (step.Do e a) w = at k.signer e.channel (act_moves e.node a) w
-happens k (step.Down e) w = at k.signer e.channel (fall_moves e.node) w
+happens k (step.Down e) w = at k.signer e.channel (disconnect_moves e.node) w
 happens k (step.NoMemory e a) w = lacks_memory k.signer e a w
 happens k (step.Restart n) w = everywhere k.signer (restart_moves n) w
 happens k (step.StopBefore e a) w = stops_before k.signer e a w

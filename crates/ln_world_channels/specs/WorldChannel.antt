@@ -18,7 +18,7 @@ use Rattle.ln_world_channels.specs.declared.settings.Settings.{Settings}
 use Rattle.ln_world_channels.specs.declared.line.Line.{Line}
 use Rattle.ln_world_channels.specs.declared.line.Line.TheVariants as line
 use Rattle.ln_world_channels.specs.Settings.{config_of, spec_of, channel_id_of}
-use Rattle.ln_world_channels.specs.Both.{Both, SimEnd, Move, By, Falls, Halts, Restarts, Stops, Meet, act_lines}
+use Rattle.ln_world_channels.specs.Both.{Both, SimEnd, Move, By, Disconnects, Halts, Restarts, Stops, Meet, act_lines}
 use Rattle.ln_world_channels.specs.Both.{may_come_up, first_message_lines, first_message, unheard}
 use Rattle.ln_world_channels.specs.Both.{run as run_both}
 
@@ -67,8 +67,8 @@ moved signer f c = record {
 abbrev pub act_moves : {K : Type 0} → Node → Act → WorldChannel K → List Move
 act_moves n a c = by (side_of n c) (λ side. By side a)
 
-abbrev pub fall_moves : {K : Type 0} → Node → WorldChannel K → List Move
-fall_moves n c = by (side_of n c) Falls
+abbrev pub disconnect_moves : {K : Type 0} → Node → WorldChannel K → List Move
+disconnect_moves n c = by (side_of n c) Disconnects
 
 -- it has no memory for an act
 abbrev pub halt_moves : {K : Type 0} → Node → WorldChannel K → List Move

@@ -62,7 +62,7 @@ impl<K: ChannelKeys + Copy> SimEnd<K> {
     ghost use Rattle.std.specs.Prelude.{◌≡◌, [], IfErr, OnOk};
     ghost use Rattle.ln_channel_laws.specs.Ends.{messages_in};
     ghost use Rattle.ln_world_channels.specs.Lines.{one_or_none};
-    ghost use Rattle.ln_world_channels.specs.Both.{reaches, fallen, halted, restarted, may_come_up};
+    ghost use Rattle.ln_world_channels.specs.Both.{reaches, disconnected, halted, restarted, may_come_up};
     ghost use Rattle.ln_world_channels.specs.WorldChannel.{may_do};
     ghost use Rattle.ln_world_channels.specs.Stored.{link_record};
 
@@ -129,8 +129,8 @@ impl<K: ChannelKeys + Copy> SimEnd<K> {
     }
 
     /// It loses its connection, and what is in flight to it.
-    pub(crate) fn fall(&mut self)
-        ensures { self.new ≡ fallen self.old }
+    pub(crate) fn disconnect(&mut self)
+        ensures { self.new ≡ disconnected self.old }
     {
         self.link.drop_connection();
         self.inbox.clear();

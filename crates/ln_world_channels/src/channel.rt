@@ -44,9 +44,9 @@ impl<K: ChannelKeys + Copy> WorldChannel<K> {
     ghost use Rattle.std.specs.Prelude.{◌≡◌, ◌++◌, ◌∷◌, [], Some, OnOk, IfOk, IfErr, if◌then◌else◌};
     ghost use Rattle.ln_keys.specs.declared.role.Role.TheVariants.{Funder, Fundee};
     ghost use Rattle.ln_world_channels.specs.Settings.{channel_id_of};
-    ghost use Rattle.ln_world_channels.specs.Both.{By, Falls, Restarts, Meet, act_lines, first_message_lines};
+    ghost use Rattle.ln_world_channels.specs.Both.{By, Disconnects, Restarts, Meet, act_lines, first_message_lines};
     ghost use Rattle.ln_world_channels.specs.Both.{first_message};
-    ghost use Rattle.ln_world_channels.specs.WorldChannel.{side_of, moved, act_moves, fall_moves, up_moves};
+    ghost use Rattle.ln_world_channels.specs.WorldChannel.{side_of, moved, act_moves, disconnect_moves, up_moves};
     ghost use Rattle.ln_world_channels.specs.WorldChannel.{acted_lines};
     ghost use Rattle.ln_world_channels.specs.WorldChannel.{restart_moves, fallen_lines, place_of, end_of};
     ghost use Rattle.ln_world_channels.specs.WorldChannel.{opening_moves};
@@ -185,16 +185,16 @@ impl<K: ChannelKeys + Copy> WorldChannel<K> {
 
     /// The node's end loses its connection, where it has one. 60 where there is no memory.
     #[tactic(auto, unfolding(crate::specs::Both::moves))]
-    pub fn fall(&mut self, node: Node, lines: &mut Vec<Line>) -> Result<(), Refusal>
-        ensures moved { OnOk result (self.new ≡ moved K.signer (fall_moves node) self.old) }
+    pub fn disconnect(&mut self, node: Node, lines: &mut Vec<Line>) -> Result<(), Refusal>
+        ensures moved { OnOk result (self.new ≡ moved K.signer (disconnect_moves node) self.old) }
         ensures told { OnOk result (lines.new.items ≡ lines.old.items ++ fallen_lines (side_of node self.old)) }
         ensures number { self.new.number ≡ self.old.number }
         ensures fails_for_memory_alone { IfErr result (λ e. e ≡ Refusal.Memory) }
     {
         match self.side_of(node) {
             None => lines.push(Line::Idle)?,
-            Some(Role::Funder) => self.funder.fall(),
-            Some(Role::Fundee) => self.fundee.fall(),
+            Some(Role::Funder) => self.funder.disconnect(),
+            Some(Role::Fundee) => self.fundee.disconnect(),
         }
         Ok(())
     }

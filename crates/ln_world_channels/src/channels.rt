@@ -43,7 +43,7 @@ impl<K: ChannelKeys + Copy> Channels<K> {
     ghost use Rattle.std.specs.Prelude.{◌≡◌, ◌++◌, ◌∷◌, [], is_none, None, OnOk, IfOk, IfErr, option_copied};
     ghost use Rattle.ln_world_channels.specs.Settings.{CanBring};
     ghost use Rattle.ln_world_channels.specs.WorldChannel.{side_of, acted_lines, fallen_lines, met_lines, opened_by};
-    ghost use Rattle.ln_world_channels.specs.WorldChannel.{act_moves, fall_moves, restart_moves, up_moves};
+    ghost use Rattle.ln_world_channels.specs.WorldChannel.{act_moves, disconnect_moves, restart_moves, up_moves};
     ghost use Rattle.ln_world_channels.specs.WorldChannel.{halt_moves, stop_moves};
     ghost use Rattle.ln_world_channels.specs.World.{channel, moved_at, all_moved, if_there, lines_of_ends};
     ghost use Rattle.ln_world_channels.specs.World.{may_be_done, unheard_at};
@@ -122,8 +122,8 @@ impl<K: ChannelKeys + Copy> Channels<K> {
     }
 
     /// An end loses its connection, where its channel is there. 60 where there is no memory.
-    pub(crate) fn fall(&mut self, end: End, lines: &mut Vec<Line>) -> Result<(), Refusal>
-        ensures moved { OnOk result (self.new ≡ moved_at K.signer end.channel (fall_moves end.node) self.old) }
+    pub(crate) fn disconnect(&mut self, end: End, lines: &mut Vec<Line>) -> Result<(), Refusal>
+        ensures moved { OnOk result (self.new ≡ moved_at K.signer end.channel (disconnect_moves end.node) self.old) }
         ensures told { OnOk result (lines.new.items ≡ lines.old.items
             ++ if_there (λ c. fallen_lines (side_of end.node c)) (channel end.channel self.old)) }
         ensures fails_for_memory_alone { IfErr result (λ e. e ≡ Refusal.Memory) }
@@ -133,7 +133,7 @@ impl<K: ChannelKeys + Copy> Channels<K> {
                 lines.push(Line::Idle)?;
                 Ok(())
             }
-            Some(i) => self.items[i].fall(end.node, lines),
+            Some(i) => self.items[i].disconnect(end.node, lines),
         }
     }
 

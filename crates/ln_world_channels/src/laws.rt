@@ -9,7 +9,7 @@ ghost use Rattle.ln_world_channels.specs.declared.step.Step.{Step};
 ghost use Rattle.ln_world_channels.specs.World.{empty, run, channel};
 ghost use Rattle.ln_world_channels.specs.Failing.{SomeMayFail};
 ghost use Rattle.ln_world_channels.specs.Promises.{OfEach, Headline, NoneRefused, AllTaken, OneFee, Agrees};
-ghost use Rattle.ln_world_channels.specs.Promises.{AnswersShutdown, MarksAgree, BothClose, DoExactly};
+ghost use Rattle.ln_world_channels.specs.Promises.{AnswersShutdown, ReadinessAgrees, BothClose, DoExactly};
 ghost use Rattle.ln_world_channels.specs.Longest.{BasesAreLongest};
 ghost use Rattle.ln_world_channels.specs.Records.{AreSteps, HaveRecords};
 ghost use Rattle.ln_world_channels.specs.Sending.{NoneAddsLate};
@@ -56,8 +56,8 @@ pub fn agreement<K: ChannelKeys + Copy>()
 
 /// A law: in each channel, where both ends have met and nothing is in flight, either has taken the other's `shutdown`
 /// exactly where one was sent, and its `channel_ready` likewise, unless it has closed.
-pub fn marks_agree_at_rest<K: ChannelKeys + Copy>()
-    ensures { (steps : List (Step K K.ChannelKeys)) → OfEach MarksAgree (run K.ChannelKeys steps empty) }
+pub fn readiness_agrees_at_rest<K: ChannelKeys + Copy>()
+    ensures { (steps : List (Step K K.ChannelKeys)) → OfEach ReadinessAgrees (run K.ChannelKeys steps empty) }
 {}
 
 /// A law: in each channel whose two ends take closing fees that overlap, where both have met and nothing is in flight,

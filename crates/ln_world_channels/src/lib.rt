@@ -20,12 +20,12 @@ pub use channel::{WorldChannel, open_channel};
 pub use laws::{
     a_shutdown_is_answered, agreement, bases_are_the_longest, channels_open_as_set,
     closed_at_one_fee, closing_ends, commands_are_done_exactly, every_end_has_a_record, headline,
-    marks_agree_at_rest, never_refused, never_refused_where_fees_overlap,
-    no_add_follows_a_shutdown, signatures_are_over_what_is_covered,
+    never_refused, never_refused_where_fees_overlap, no_add_follows_a_shutdown,
+    readiness_agrees_at_rest, signatures_are_over_what_is_covered,
 };
 pub use line::{Choice, EndLine, Ending, Line, Word};
 pub use machine::{
-    close_is_last, each_move_may_be_made, events_are_told, moves_are_the_machines,
+    close_is_last, each_move_may_be_made, events_are_reported, moves_are_the_machines,
     undecided_events_are_the_machines,
 };
 pub use settings::{Setting, Settings, channel_id_of, may_bring};

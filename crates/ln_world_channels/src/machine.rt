@@ -30,7 +30,7 @@ pub fn each_move_may_be_made<K: ChannelKeys + Copy>()
 
 /// A law: the events among all that an end of the channel with this number hands out in these steps, with their
 /// numbers, are those of the moves for its side: each once, in their order, numbered from 0.
-pub fn events_are_told<K: ChannelKeys + Copy>()
+pub fn events_are_reported<K: ChannelKeys + Copy>()
     ensures { (steps : List (Step K K.ChannelKeys)) (number : ℕ) (side : Role)
         → EventsAreTold K.ChannelKeys number side steps }
 {}

@@ -225,7 +225,7 @@ impl<K: ChannelKeys + Copy> World<K> {
             Step::Limits(node, limits) => self.set_limits(node, limits),
             Step::Open(wish) => self.open(alloc, &wish, lines),
             Step::Do(end, what) => self.channels.act(alloc, end, what, lines),
-            Step::Down(end) => self.channels.fall(end, lines),
+            Step::Down(end) => self.channels.disconnect(end, lines),
             Step::NoMemory(end, what) => self.lack_memory(end, what, lines),
             Step::Restart(node) => self.channels.restart(alloc, node),
             Step::StopBefore(end, what) => self.stop_before(alloc, end, what, lines),

@@ -7,8 +7,8 @@ use Rattle.ln_hooks.specs.declared.verdict.Verdict.{Verdict}
 use Rattle.ln_hooks.specs.Table.{Says}
 use Rattle.ln_world_dispatch.specs.Dispatcher.{Dispatcher}
 use Rattle.ln_hooks.specs.Chain.{shown_to}
-use Rattle.ln_world_dispatch.specs.Seated.{Tables, CallsAt, SlotsAt, aside_where, set_aside, IsAside}
-use Rattle.ln_world_dispatch.specs.Seated.{AreAside}
+use Rattle.ln_world_dispatch.specs.Slots.{Tables, CallsAt, SlotsAt, aside_where, set_aside, IsAside}
+use Rattle.ln_world_dispatch.specs.Slots.{AreAside}
 
 module _ {H D : Type 0} (calls : H → ChannelEvent → Verdict → H → Type 0) (now : D → List H)
     (past : D → List (List H)) where

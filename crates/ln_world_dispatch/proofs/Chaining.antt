@@ -9,8 +9,8 @@ use Rattle.ln_hooks.specs.Chain.{IsCalledOn, IsChain, shown_to}
 use Rattle.ln_hooks.specs.Table.{AreCalledOn}
 use Rattle.ln_world_dispatch.specs.declared.hook_slot.HookSlot.{HookSlot}
 use Rattle.ln_world_dispatch.specs.Dispatcher.{Epoch, Dispatcher, next, called, with_one}
-use Rattle.ln_world_dispatch.specs.Seated.{Answers, replies, next_answer, sum_slots, sum_epochs, one_at, calls_at}
-use Rattle.ln_world_dispatch.specs.Seated.{calls_of, IsSeated, AreSeated, EpochsSeated, Tables, AllSeated}
+use Rattle.ln_world_dispatch.specs.Slots.{Answers, replies, next_answer, sum_slots, sum_epochs, one_at, calls_at}
+use Rattle.ln_world_dispatch.specs.Slots.{calls_of, HasSlot, HaveSlots, EpochsHaveSlots, Tables, AllHaveSlots}
 use Rattle.ln_world_dispatch.proofs.Counting.{Heard, AsMany}
 
 pub called_push : (e : ChannelEvent) (v : Verdict) (l : Epoch) (s : HookSlot) → l.start ≤ s.place → s.place ≤ next l
@@ -56,7 +56,7 @@ module _ {H : Type 0} (calls : H → ChannelEvent → Verdict → H → Type 0) 
 
     one_on : (a b : Answers) (l : Epoch) (s : HookSlot) (h : H)
         → ((j : ℕ) → j < length (called l s) → b s.hook j ≡ a s.hook j)
-        → IsSeated calls handed a l s h → IsSeated calls handed b l s h
+        → HasSlot calls handed a l s h → HasSlot calls handed b l s h
     one_on a b l s h same k = record {
       after_start = k.after_start;
       before_next = k.before_next;
@@ -67,8 +67,8 @@ module _ {H : Type 0} (calls : H → ChannelEvent → Verdict → H → Type 0) 
     }
 
     pub slots_on : (a b : Answers) (n : ℕ → ℕ) → TellsAs a b n → (l : Epoch) (ss : List HookSlot) (hs : List H)
-        → ((i : ℕ) → sum_slots (calls_at i l) ss ≤ n i) → AreSeated calls handed a l ss hs
-        → AreSeated calls handed b l ss hs
+        → ((i : ℕ) → sum_slots (calls_at i l) ss ≤ n i) → HaveSlots calls handed a l ss hs
+        → HaveSlots calls handed b l ss hs
     slots_on a b n same l [] [] within k = tt
     slots_on a b n same l (s ∷ ss) (h ∷ hs) within k = (
       one_on a b l s h (λ j lt. same s.hook j (
@@ -82,8 +82,8 @@ module _ {H : Type 0} (calls : H → ChannelEvent → Verdict → H → Type 0) 
     slots_on a b n same l (s ∷ ss) [] within k = elim k [ ]
 
     pub epochs_on : (a b : Answers) (n : ℕ → ℕ) → TellsAs a b n → (ls : List Epoch) (ts : List (List H))
-        → ((i : ℕ) → sum_epochs (calls_at i) ls ≤ n i) → EpochsSeated calls handed a ls ts
-        → EpochsSeated calls handed b ls ts
+        → ((i : ℕ) → sum_epochs (calls_at i) ls ≤ n i) → EpochsHaveSlots calls handed a ls ts
+        → EpochsHaveSlots calls handed b ls ts
     epochs_on a b n same [] [] within k = tt
     epochs_on a b n same (l ∷ ls) (t ∷ ts) within k = (
       slots_on a b n same l l.slots t (λ i. let w = within i in omega (arith, w)) k.0,
@@ -93,7 +93,7 @@ module _ {H : Type 0} (calls : H → ChannelEvent → Verdict → H → Type 0) 
     epochs_on a b n same (l ∷ ls) [] within k = elim k [ ]
 
     pub all_on : (a b : Answers) (n : ℕ → ℕ) → TellsAs a b n → (ds : List Dispatcher) (ts : List (Tables calls))
-        → ((i : ℕ) → calls_of i ds ≤ n i) → AllSeated calls handed a ds ts → AllSeated calls handed b ds ts
+        → ((i : ℕ) → calls_of i ds ≤ n i) → AllHaveSlots calls handed a ds ts → AllHaveSlots calls handed b ds ts
     all_on a b n same [] [] within k = tt
     all_on a b n same (d ∷ ds) (t ∷ ts) within k = (
       (
@@ -108,8 +108,8 @@ module _ {H : Type 0} (calls : H → ChannelEvent → Verdict → H → Type 0) 
     -- ---- one call more
 
     one_further : (a : Answers) (e : ChannelEvent) (v : Verdict) (l : Epoch) (s : HookSlot) (h h' : H) (x : Verdict)
-        → a s.hook (length (called l s)) ≡ x → IsSeated calls handed a l s h
-        → IsCalledOn (shown_to calls) h e x h' → IsSeated calls handed a (with_one e v l) s h'
+        → a s.hook (length (called l s)) ≡ x → HasSlot calls handed a l s h
+        → IsCalledOn (shown_to calls) h e x h' → HasSlot calls handed a (with_one e v l) s h'
     one_further a e v l s h h' x heard k now =
         let es = called l s in
         let n = length es in
@@ -132,8 +132,8 @@ module _ {H : Type 0} (calls : H → ChannelEvent → Verdict → H → Type 0) 
         }
 
     pub further : (a : Answers) (e : ChannelEvent) (v : Verdict) (l : Epoch) (ss : List HookSlot) (hs : List H)
-        (rs : List Verdict) (hs' : List H) → Heard a l ss rs → AreSeated calls handed a l ss hs
-        → AreCalledOn (λ (h : H). h) (shown_to calls) hs e rs hs' → AreSeated calls handed a (with_one e v l) ss hs'
+        (rs : List Verdict) (hs' : List H) → Heard a l ss rs → HaveSlots calls handed a l ss hs
+        → AreCalledOn (λ (h : H). h) (shown_to calls) hs e rs hs' → HaveSlots calls handed a (with_one e v l) ss hs'
     further a e v l [] [] [] [] heard k now = tt
     further a e v l (s ∷ ss) (h ∷ hs) (r ∷ rs) (h' ∷ hs') heard k now =
         (one_further a e v l s h h' r heard.0 k.0 now.0, further a e v l ss hs rs hs' heard.1 k.1 now.1)
@@ -145,7 +145,7 @@ module _ {H : Type 0} (calls : H → ChannelEvent → Verdict → H → Type 0) 
     further a e v l (s ∷ ss) (h ∷ hs) (r ∷ rs) [] heard k now = elim now [ ]
 
     pub as_many : (a : Answers) (e : ChannelEvent) (l : Epoch) (ss : List HookSlot) (hs : List H) (rs : List Verdict)
-        (hs' : List H) → AreSeated calls handed a l ss hs
+        (hs' : List H) → HaveSlots calls handed a l ss hs
         → AreCalledOn (λ (h : H). h) (shown_to calls) hs e rs hs' → AsMany ss rs
     as_many a e l [] [] [] [] k now = tt
     as_many a e l (s ∷ ss) (h ∷ hs) (r ∷ rs) (h' ∷ hs') k now = as_many a e l ss hs rs hs' k.1 now.1
@@ -163,7 +163,7 @@ module _ {H : Type 0} (calls : H → ChannelEvent → Verdict → H → Type 0) 
     grown_by false n m is = refl
 
     pub calls_more : (a : Answers) (e : ChannelEvent) (v : Verdict) (l : Epoch) (ss : List HookSlot) (hs : List H)
-        → AreSeated calls handed a l ss hs → (i : ℕ)
+        → HaveSlots calls handed a l ss hs → (i : ℕ)
         → sum_slots (calls_at i (with_one e v l)) ss ≡ sum_slots (calls_at i l) ss + sum_slots (one_at i l) ss
     calls_more a e v l [] hs k i = refl
     calls_more a e v l (s ∷ ss) (h ∷ hs) k i =
@@ -176,7 +176,7 @@ module _ {H : Type 0} (calls : H → ChannelEvent → Verdict → H → Type 0) 
     -- what is told of the calls so far and of one more is what these hooks have answered
     pub heard_too : (a b : Answers) (n : ℕ → ℕ) → TellsAs a b n → (e : ChannelEvent) (v : Verdict) (l : Epoch)
         (ss : List HookSlot) (hs : List H) (rs : List Verdict)
-        → ((i : ℕ) → sum_slots (calls_at i (with_one e v l)) ss ≤ n i) → AreSeated calls handed a l ss hs
+        → ((i : ℕ) → sum_slots (calls_at i (with_one e v l)) ss ≤ n i) → HaveSlots calls handed a l ss hs
         → Heard a l ss rs → map (next_answer b l) ss ≡ rs
     heard_too a b n same e v l [] hs [] within k heard = refl
     heard_too a b n same e v l (s ∷ ss) (h ∷ hs) (r ∷ rs) within k heard =

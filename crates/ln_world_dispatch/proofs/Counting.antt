@@ -6,7 +6,7 @@ use Rattle.ln_hooks.specs.declared.verdict.Verdict.{Verdict}
 use Rattle.ln_hooks.specs.declared.verdict.Verdict.TheVariants.{Continue}
 use Rattle.ln_world_dispatch.specs.declared.hook_slot.HookSlot.{HookSlot}
 use Rattle.ln_world_dispatch.specs.Dispatcher.{Epoch, Dispatcher, called}
-use Rattle.ln_world_dispatch.specs.Seated.{Answers, sum_slots, sum_epochs, one_at, calls_at, slots_of, calls_of}
+use Rattle.ln_world_dispatch.specs.Slots.{Answers, sum_slots, sum_epochs, one_at, calls_at, slots_of, calls_of}
 
 -- ---- where it has no slot it wasn't called
 

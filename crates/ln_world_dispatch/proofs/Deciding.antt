@@ -60,7 +60,7 @@ use Rattle.ln_channel.specs.Step.{signed_at, opening_at, turned, awaiting_at, st
 use Rattle.ln_channel.specs.Step.{message_fault, obeyed, noted, connects, asked, line_fault}
 use Rattle.ln_world_channels.specs.declared.step.Act.{Act}
 use Rattle.ln_world_channels.specs.declared.step.Act.TheVariants as act
-use Rattle.ln_world_channels.specs.Both.{SimEnd, Both, Move, By, Falls, Halts, Restarts, Stops, Meet, moves, left}
+use Rattle.ln_world_channels.specs.Both.{SimEnd, Both, Move, By, Disconnects, Halts, Restarts, Stops, Meet, moves, left}
 use Rattle.ln_world_channels.specs.Both.{unchanged}
 use Rattle.ln_world_channels.specs.Both.{back}
 use Rattle.ln_world_channels.specs.Both.{acts, delivers, restarted, swapped}
@@ -591,7 +591,7 @@ module _ (P : ℕ → Type 0) where
 abbrev pub KeptByMove : (P Q : ℕ → Type 0) → Move → Type 0
 KeptByMove P Q (By Funder a) = KeptBy P a
 KeptByMove P Q (By Fundee a) = KeptBy Q a
-KeptByMove P Q (Falls side) = Unit {0}
+KeptByMove P Q (Disconnects side) = Unit {0}
 KeptByMove P Q (Halts side) = Unit {0}
 KeptByMove P Q (Restarts side) = Unit {0}
 KeptByMove P Q (Stops Funder a) = KeptBy P a
@@ -658,8 +658,8 @@ module _ {K : Type 0} where
   moves_so P Q signer id (By Fundee a) p i h =
       turned_round Q P (acts signer id a (swapped p))
       (acts_so Q P signer id a (swapped p) i (turned_round P Q p h))
-  moves_so P Q signer id (Falls Funder) p i h = (drops_so P p.x.link h.0, h.1)
-  moves_so P Q signer id (Falls Fundee) p i h = (h.0, drops_so Q p.y.link h.1)
+  moves_so P Q signer id (Disconnects Funder) p i h = (drops_so P p.x.link h.0, h.1)
+  moves_so P Q signer id (Disconnects Fundee) p i h = (h.0, drops_so Q p.y.link h.1)
   moves_so P Q signer id (Halts Funder) p i h = (drops_so P p.x.link h.0, h.1)
   moves_so P Q signer id (Halts Fundee) p i h = (h.0, drops_so Q p.y.link h.1)
   moves_so P Q signer id (Restarts Funder) p i h = (restarted_so P p.x h.0, h.1)

@@ -8,7 +8,7 @@ use Rattle.ln_hooks.specs.declared.verdict.Verdict.{Verdict}
 use Rattle.ln_hooks.specs.declared.verdict.Verdict.TheVariants.{Continue}
 use Rattle.ln_world_channels.specs.declared.line.Line.{Line}
 use Rattle.ln_world_dispatch.specs.World.{World, empty, item}
-use Rattle.ln_world_dispatch.specs.Seated.{Answers, Tables, Stand, Moved, IsLeft, Agree}
+use Rattle.ln_world_dispatch.specs.Slots.{Answers, Tables, Stand, Moved, IsLeft, Agree}
 use Rattle.ln_world_dispatch.proofs.Restarting.{as_many_tables}
 
 -- of those that were handed in none was registered

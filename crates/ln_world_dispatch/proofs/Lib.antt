@@ -9,7 +9,7 @@ pub mod Counting
 pub mod Chaining
 pub mod Calling
 pub mod Serving
-pub mod Seating
+pub mod Slotting
 pub mod Restarting
 pub mod Once
 pub mod Standing

@@ -6,8 +6,8 @@ use Rattle.ln_hooks.specs.declared.event.ChannelEvent.{ChannelEvent}
 use Rattle.ln_hooks.specs.declared.verdict.Verdict.{Verdict}
 use Rattle.ln_world_channels.specs.declared.step.End.{End}
 use Rattle.ln_world_dispatch.specs.Dispatcher.{Dispatcher, serving, registered, is_at, at_dispatcher, next}
-use Rattle.ln_world_dispatch.specs.Seated.{one_at, slots_of}
-use Rattle.ln_world_dispatch.proofs.Seating.{sum_push}
+use Rattle.ln_world_dispatch.specs.Slots.{one_at, slots_of}
+use Rattle.ln_world_dispatch.proofs.Slotting.{sum_push}
 
 served_by : (b : Bool) (i : ℕ) (e : End) (event : ChannelEvent) (v : Verdict) (d : Dispatcher) (ds : List Dispatcher)
     → slots_of i (at_dispatcher e (serving event v) ds) ≡ slots_of i ds

@@ -24,9 +24,9 @@ use Rattle.ln_world_channels.specs.declared.step.Open.{Open}
 use Rattle.ln_world_channels.specs.declared.step.Step.{Step as ChannelStep}
 use Rattle.ln_world_channels.specs.declared.step.Step.TheVariants as channel_step
 use Rattle.ln_world_channels.specs.Settings.{channel_id_of, may_bring}
-use Rattle.ln_world_channels.specs.Both.{Move, By, Falls, Halts, Restarts, Stops, Meet}
+use Rattle.ln_world_channels.specs.Both.{Move, By, Disconnects, Halts, Restarts, Stops, Meet}
 use Rattle.ln_world_channels.specs.WorldChannel.{WorldChannel, is_node, by, side_of, end_at, moved, act_moves}
-use Rattle.ln_world_channels.specs.WorldChannel.{fall_moves}
+use Rattle.ln_world_channels.specs.WorldChannel.{disconnect_moves}
 use Rattle.ln_world_channels.specs.WorldChannel.{halt_moves, restart_moves, stop_moves, up_moves, may_meet}
 use Rattle.ln_world_channels.specs.WorldChannel.{opening_moves}
 use Rattle.ln_world_channels.specs.WorldChannel.{begun_by, opened_by}
@@ -428,8 +428,8 @@ module _ {K : Type 0} where
   -- ---- which moves they are
 
   -- what decides nothing
-  falls : (n : Node) (c : WorldChannel K) (x y : Dispatcher) → Fits (fall_moves n) c x y
-  falls n c x y = moves_by (Between x) (Between y) (side_of n c) Falls (λ side is. tt)
+  disconnects : (n : Node) (c : WorldChannel K) (x y : Dispatcher) → Fits (disconnect_moves n) c x y
+  disconnects n c x y = moves_by (Between x) (Between y) (side_of n c) Disconnects (λ side is. tt)
 
   halts : (n : Node) (c : WorldChannel K) (x y : Dispatcher) → Fits (halt_moves n) c x y
   halts n c x y = moves_by (Between x) (Between y) (side_of n c) Halts (λ side is. tt)
@@ -674,8 +674,8 @@ module _ {K : Type 0} (k : Ghosts K) where
       (acts e a cs w.dispatchers (allowed_so e a w is) h) h) h
   channels_move (step.Down e) w h =
       let cs = w.channels.channels in
-      moves_at k.signer e.channel (fall_moves e.node) cs w.dispatchers
-      (each_at e.channel (fall_moves e.node) (falls e.node) cs w.dispatchers h.pairs) h
+      moves_at k.signer e.channel (disconnect_moves e.node) cs w.dispatchers
+      (each_at e.channel (disconnect_moves e.node) (disconnects e.node) cs w.dispatchers h.pairs) h
   channels_move (step.NoMemory e a) w h =
       let cs = w.channels.channels in
       taken_by (is_dispatched e a w) (channel_step.NoMemory e a) w.channels w.dispatchers

@@ -7,8 +7,8 @@ use Rattle.ln_hooks.specs.declared.verdict.Verdict.{Verdict}
 use Rattle.ln_world_channels.specs.declared.step.End.{End}
 use Rattle.ln_world_dispatch.specs.declared.hook_slot.HookSlot.{HookSlot}
 use Rattle.ln_world_dispatch.specs.Dispatcher.{Epoch, Dispatcher, fresh, restarted}
-use Rattle.ln_world_dispatch.specs.Seated.{Answers, sum_slots, sum_epochs, total, AreSeated, EpochsSeated}
-use Rattle.ln_world_dispatch.specs.Seated.{Tables, AllSeated, set_aside}
+use Rattle.ln_world_dispatch.specs.Slots.{Answers, sum_slots, sum_epochs, total, HaveSlots, EpochsHaveSlots}
+use Rattle.ln_world_dispatch.specs.Slots.{Tables, AllHaveSlots, set_aside}
 
 -- ---- what is counted stays
 
@@ -37,23 +37,23 @@ joined_total f (d ∷ ds) x y r q = let rest = joined_total f ds x y r q in omeg
 -- ---- the hooks stay as they are
 
 module _ {H : Type 0} (calls : H → ChannelEvent → Verdict → H → Type 0) (handed : List H) (a : Answers) where
-  epochs_more : (ls : List Epoch) (ts : List (List H)) (l : Epoch) (t : List H) → EpochsSeated calls handed a ls ts
-      → AreSeated calls handed a l l.slots t → EpochsSeated calls handed a (ls ++ l ∷ []) (ts ++ t ∷ [])
+  epochs_more : (ls : List Epoch) (ts : List (List H)) (l : Epoch) (t : List H) → EpochsHaveSlots calls handed a ls ts
+      → HaveSlots calls handed a l l.slots t → EpochsHaveSlots calls handed a (ls ++ l ∷ []) (ts ++ t ∷ [])
   epochs_more [] [] l t k n = (n, tt)
   epochs_more (x ∷ ls) (y ∷ ts) l t k n = (k.0, epochs_more ls ts l t k.1 n)
   epochs_more [] (y ∷ ts) l t k n = elim k [ ]
   epochs_more (x ∷ ls) [] l t k n = elim k [ ]
 
   aside_by : (b : Bool) (n : ℕ) (d : Dispatcher) (t : Tables calls) (ds : List Dispatcher) (ts : List (Tables calls))
-      → AreSeated calls handed a d.epoch d.epoch.slots t.0 × EpochsSeated calls handed a d.past t.1
-      → AllSeated calls handed a ds ts
-      → AllSeated calls handed a (cond b (restarted n d) d ∷ ds) (cond b ([], t.1 ++ t.0 ∷ []) t ∷ ts)
+      → HaveSlots calls handed a d.epoch d.epoch.slots t.0 × EpochsHaveSlots calls handed a d.past t.1
+      → AllHaveSlots calls handed a ds ts
+      → AllHaveSlots calls handed a (cond b (restarted n d) d ∷ ds) (cond b ([], t.1 ++ t.0 ∷ []) t ∷ ts)
   aside_by true n d t ds ts k rest = ((tt, epochs_more d.past t.1 d.epoch t.0 k.1 k.0), rest)
   aside_by false n d t ds ts k rest = (k, rest)
 
   pub anew_seated : (anew : Dispatcher → Bool) (n : Dispatcher → ℕ) (ds : List Dispatcher) (ts : List (Tables calls))
-      → AllSeated calls handed a ds ts
-      → AllSeated calls handed a (map (λ d. cond (anew d) (restarted (n d) d) d) ds) (set_aside calls anew ds ts)
+      → AllHaveSlots calls handed a ds ts
+      → AllHaveSlots calls handed a (map (λ d. cond (anew d) (restarted (n d) d) d) ds) (set_aside calls anew ds ts)
   anew_seated anew n [] [] k = tt
   anew_seated anew n (d ∷ ds) (t ∷ ts) k =
       aside_by (anew d) (n d) d t (map (λ x. cond (anew x) (restarted (n x) x) x) ds) (set_aside calls anew ds ts) k.0
@@ -62,14 +62,14 @@ module _ {H : Type 0} (calls : H → ChannelEvent → Verdict → H → Type 0) 
   anew_seated anew n (d ∷ ds) [] k = elim k [ ]
 
   pub joined_seated : (ds : List Dispatcher) (ts : List (Tables calls)) (x y : End) (r q : Role)
-      → AllSeated calls handed a ds ts
-      → AllSeated calls handed a (ds ++ fresh x r ∷ fresh y q ∷ []) (ts ++ ([], []) ∷ ([], []) ∷ [])
+      → AllHaveSlots calls handed a ds ts
+      → AllHaveSlots calls handed a (ds ++ fresh x r ∷ fresh y q ∷ []) (ts ++ ([], []) ∷ ([], []) ∷ [])
   joined_seated [] [] x y r q k = ((tt, tt), ((tt, tt), tt))
   joined_seated (d ∷ ds) (t ∷ ts) x y r q k = (k.0, joined_seated ds ts x y r q k.1)
   joined_seated [] (t ∷ ts) x y r q k = elim k [ ]
   joined_seated (d ∷ ds) [] x y r q k = elim k [ ]
 
-  pub as_many_tables : (ds : List Dispatcher) (ts : List (Tables calls)) → AllSeated calls handed a ds ts
+  pub as_many_tables : (ds : List Dispatcher) (ts : List (Tables calls)) → AllHaveSlots calls handed a ds ts
       → length ts ≡ length ds
   as_many_tables [] [] k = refl
   as_many_tables (d ∷ ds) (t ∷ ts) k = ap suc (as_many_tables ds ts k.1)

@@ -8,7 +8,7 @@ use Rattle.ln_hooks.specs.declared.verdict.Verdict.{Verdict}
 use Rattle.ln_world_channels.specs.declared.line.Line.{Line}
 use Rattle.ln_world_dispatch.specs.declared.step.Step.{Step}
 use Rattle.ln_world_dispatch.specs.World.{World, empty, happens, run, step_lines, run_lines, MayFail, SomeMayFail}
-use Rattle.ln_world_dispatch.specs.Seated.{Answers, Tables}
+use Rattle.ln_world_dispatch.specs.Slots.{Answers, Tables}
 use Rattle.ln_world_dispatch.specs.Hooked.{verdict_in, answered, Steps, HasRun, RunMayFail}
 use Rattle.ln_world_dispatch.proofs.Going as going
 use Rattle.ln_world_dispatch.proofs.Dispatchers.{calls_follow}

@@ -11,9 +11,9 @@ use Rattle.ln_hooks.specs.Table.{AreCalledOn}
 use Rattle.ln_world_channels.specs.declared.step.End.{End}
 use Rattle.ln_world_channels.proofs.Places.{at_first}
 use Rattle.ln_world_dispatch.specs.Dispatcher.{Dispatcher, with_one, serving, is_at, dispatcher_at, at_dispatcher}
-use Rattle.ln_world_dispatch.specs.Seated.{Answers, says_at, sum_slots, sum_epochs, one_at, calls_at, slots_of}
-use Rattle.ln_world_dispatch.specs.Seated.{calls_of, AreSeated, EpochsSeated, Tables, AllSeated, CallsAt}
-use Rattle.ln_world_dispatch.specs.Seated.{Agree}
+use Rattle.ln_world_dispatch.specs.Slots.{Answers, says_at, sum_slots, sum_epochs, one_at, calls_at, slots_of}
+use Rattle.ln_world_dispatch.specs.Slots.{calls_of, HaveSlots, EpochsHaveSlots, Tables, AllHaveSlots, CallsAt}
+use Rattle.ln_world_dispatch.specs.Slots.{Agree}
 use Rattle.ln_world_dispatch.proofs.Counting.{TellsOf, answer_in, all_heard, none_epochs, none_at}
 use Rattle.ln_world_dispatch.proofs.Chaining.{all_on, further, as_many, calls_more, heard_too}
 
@@ -45,11 +45,11 @@ module _ {H : Type 0} (calls : H → ChannelEvent → Verdict → H → Type 0) 
     answers : List Verdict
     called : AreCalledOn (λ (h : H). h) (shown_to calls) before event answers after
     joins : v ≡ verdict answers
-    seated : (a : Answers) → AllSeated calls handed a ds ts
-        → AreSeated calls handed a dispatcher.epoch dispatcher.epoch.slots before
-    again : (a : Answers) → AllSeated calls handed a ds ts
-        → AreSeated calls handed a (with_one event v dispatcher.epoch) dispatcher.epoch.slots after
-        → AllSeated calls handed a (at_dispatcher e (serving event v) ds) ts'
+    seated : (a : Answers) → AllHaveSlots calls handed a ds ts
+        → HaveSlots calls handed a dispatcher.epoch dispatcher.epoch.slots before
+    again : (a : Answers) → AllHaveSlots calls handed a ds ts
+        → HaveSlots calls handed a (with_one event v dispatcher.epoch) dispatcher.epoch.slots after
+        → AllHaveSlots calls handed a (at_dispatcher e (serving event v) ds) ts'
     other_slots : ℕ → ℕ
     other_calls : ℕ → ℕ
     slots : (i : ℕ) → slots_of i ds ≡ sum_slots (one_at i dispatcher.epoch) dispatcher.epoch.slots + other_slots i
@@ -76,9 +76,9 @@ module _ {H : Type 0} (calls : H → ChannelEvent → Verdict → H → Type 0) 
         called = c.0.called;
         joins = c.0.joins;
         seated = λ a k. k.0.0;
-        again = λ a k new. subst (λ l. AllSeated calls handed a l (t' ∷ ts')) (sym moved) (
-          (new, subst (EpochsSeated calls handed a d.past) (sym c.1) k.0.1),
-          subst (AllSeated calls handed a ds) (sym c.2) k.1,
+        again = λ a k new. subst (λ l. AllHaveSlots calls handed a l (t' ∷ ts')) (sym moved) (
+          (new, subst (EpochsHaveSlots calls handed a d.past) (sym c.1) k.0.1),
+          subst (AllHaveSlots calls handed a ds) (sym c.2) k.1,
         );
         other_slots = λ i. sum_epochs (one_at i) d.past + slots_of i ds;
         other_calls = λ i. sum_epochs (calls_at i) d.past + calls_of i ds;
@@ -109,8 +109,8 @@ module _ {H : Type 0} (calls : H → ChannelEvent → Verdict → H → Type 0) 
         called = f.called;
         joins = f.joins;
         seated = λ a k. f.seated a k.1;
-        again = λ a k new. subst (λ l. AllSeated calls handed a l (t' ∷ ts')) (sym moved)
-            (subst (λ u. AllSeated calls handed a (d ∷ at_dispatcher e (serving event v) ds) (u ∷ ts')) (sym c.0)
+        again = λ a k new. subst (λ l. AllHaveSlots calls handed a l (t' ∷ ts')) (sym moved)
+            (subst (λ u. AllHaveSlots calls handed a (d ∷ at_dispatcher e (serving event v) ds) (u ∷ ts')) (sym c.0)
             (k.0, f.again a k.1 new));
         other_slots = λ i. (sum_slots (one_at i d.epoch) d.epoch.slots + sum_epochs
             (one_at i) d.past) + f.other_slots i;
@@ -161,13 +161,13 @@ module _ {H : Type 0} (calls : H → ChannelEvent → Verdict → H → Type 0) 
 
   pub record Served (a : Answers) (ds : List Dispatcher) (ts' : List (Tables calls)) : Type 0 where
     pub more : Answers
-    pub seated : AllSeated calls handed more (at_dispatcher e (serving event v) ds) ts'
+    pub slotted : AllHaveSlots calls handed more (at_dispatcher e (serving event v) ds) ts'
     pub told : (b : Answers) → Agree more b (at_dispatcher e (serving event v) ds)
         → Agree a b ds × (says_at b (dispatcher_at e ds) ≡ v)
 
   pub serves_one : (a : Answers) (ds : List Dispatcher) (ts ts' : List (Tables calls)) (i : ℕ) (x : Dispatcher)
       → Some i ≡ position (is_at e) ds → CallsAt calls i ts event v ts' → ((k : ℕ) → slots_of k ds ≤ 1)
-      → AllSeated calls handed a ds ts → Served a ds ts'
+      → AllHaveSlots calls handed a ds ts → Served a ds ts'
   serves_one a ds ts ts' i x is c once k =
       let f = at_first (is_at e) FoundAt found_here found_later ds i x is ts ts' c in
       let more = goes_on ds ts ts' a f in

@@ -12,10 +12,10 @@ use Rattle.ln_world_channels.specs.declared.step.End.{End}
 use Rattle.ln_world_dispatch.specs.Dispatcher.{Dispatcher, fresh, restarted, serving, registered, is_at, dispatcher_at}
 use Rattle.ln_world_dispatch.specs.Dispatcher.{at_dispatcher}
 use Rattle.ln_world_dispatch.specs.World.{item}
-use Rattle.ln_world_dispatch.specs.Seated.{Answers, says_at, one_at, calls_at, slots_of, Tables, CallsAt, SlotsAt}
-use Rattle.ln_world_dispatch.specs.Seated.{set_aside, Once, Stand, Moved}
+use Rattle.ln_world_dispatch.specs.Slots.{Answers, says_at, one_at, calls_at, slots_of, Tables, CallsAt, SlotsAt}
+use Rattle.ln_world_dispatch.specs.Slots.{set_aside, Once, Stand, Moved}
 use Rattle.ln_world_dispatch.proofs.Serving.{serves_one}
-use Rattle.ln_world_dispatch.proofs.Seating.{slots_one}
+use Rattle.ln_world_dispatch.proofs.Slotting.{slots_one}
 use Rattle.ln_world_dispatch.proofs.Restarting.{anew_total, anew_seated, joined_total, joined_seated}
 use Rattle.ln_world_dispatch.proofs.Once.{served_slots, seated_slots, any_push, room}
 

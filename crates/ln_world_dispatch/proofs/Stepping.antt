@@ -25,9 +25,9 @@ use Rattle.ln_world_dispatch.specs.World.{World, next_event, decided_for, is_unu
 use Rattle.ln_world_dispatch.specs.World.{new_dispatchers, served_at}
 use Rattle.ln_world_dispatch.specs.World.{all_restart, happens, item}
 use Rattle.ln_world_dispatch.specs.World.{numbered_for, step_lines, dispatch_lines, register_lines}
-use Rattle.ln_world_dispatch.specs.Seated.{Answers, Tables, CallsAt, SlotsAt, Joins, AreAside, aside_where, set_aside}
-use Rattle.ln_world_dispatch.specs.Seated.{Stand}
-use Rattle.ln_world_dispatch.specs.Seated.{Moved}
+use Rattle.ln_world_dispatch.specs.Slots.{Answers, Tables, CallsAt, SlotsAt, Joins, AreAside, aside_where, set_aside}
+use Rattle.ln_world_dispatch.specs.Slots.{Stand}
+use Rattle.ln_world_dispatch.specs.Slots.{Moved}
 use Rattle.ln_world_dispatch.specs.Hooked.{verdict_in, says_of, leaves_dispatchers, Steps}
 use Rattle.ln_world_dispatch.proofs.Found.{dispatcher_none}
 use Rattle.ln_world_dispatch.proofs.Standing.{stays, serves, slots, begin_anew, join}

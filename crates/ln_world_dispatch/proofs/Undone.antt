@@ -15,9 +15,10 @@ use Rattle.ln_world_channels.specs.declared.step.End.{End}
 use Rattle.ln_world_channels.specs.declared.step.Step.{Step as ChannelStep}
 use Rattle.ln_world_channels.specs.declared.step.Step.TheVariants as channel_step
 use Rattle.ln_world_channels.specs.Settings.{channel_id_of}
-use Rattle.ln_world_channels.specs.Both.{Both, Move, By, Falls, Halts, Restarts, Stops, Meet}
+use Rattle.ln_world_channels.specs.Both.{Both, Move, By, Disconnects, Halts, Restarts, Stops, Meet}
 use Rattle.ln_world_channels.specs.Both as both
-use Rattle.ln_world_channels.specs.WorldChannel.{WorldChannel, moved, act_moves, fall_moves, halt_moves, restart_moves}
+use Rattle.ln_world_channels.specs.WorldChannel.{WorldChannel, moved, act_moves, disconnect_moves, halt_moves}
+use Rattle.ln_world_channels.specs.WorldChannel.{restart_moves}
 use Rattle.ln_world_channels.specs.WorldChannel.{stop_moves, up_moves, opened_by}
 use Rattle.ln_world_channels.specs.Promises.{Each}
 use Rattle.ln_world_channels.specs.World.{World as Channels, channel, moved_if, may_open, may_be_done, settings_of}
@@ -58,7 +59,7 @@ act_so m (act.Send (command.Resume event mark)) = tt
 move_so : (m n : ℕ) (x : Move) → KeptByMove (λ i. m ≤ i) (λ i. n ≤ i) x
 move_so m n (By Funder a) = act_so m a
 move_so m n (By Fundee a) = act_so n a
-move_so m n (Falls side) = tt
+move_so m n (Disconnects side) = tt
 move_so m n (Halts side) = tt
 move_so m n (Restarts side) = tt
 move_so m n (Stops Funder a) = act_so m a
@@ -154,7 +155,7 @@ module _ {K : Type 0} (k : Ghosts K) where
       let c = opened_by k o (settings_of o.funder w.settings) (settings_of o.fundee w.settings) in
       either_so (may_open o w) (joined c w) w e side (more_so side e.channel c w.channels)
   never_undone (channel_step.Do x a) w e side = at_so k.signer x.channel (act_moves x.node a) w e side
-  never_undone (channel_step.Down x) w e side = at_so k.signer x.channel (fall_moves x.node) w e side
+  never_undone (channel_step.Down x) w e side = at_so k.signer x.channel (disconnect_moves x.node) w e side
   never_undone (channel_step.NoMemory x a) w e side =
       either_so (may_be_done x a w.channels) (at k.signer x.channel (halt_moves x.node) w) w e side
       (at_so k.signer x.channel (halt_moves x.node) w e side)

@@ -23,7 +23,7 @@ use Rattle.ln_world_dispatch.specs.World.{World, empty, next_event, decided_for,
 use Rattle.ln_world_dispatch.specs.World.{all_restart, may_register}
 use Rattle.ln_world_dispatch.specs.World.{may_act}
 use Rattle.ln_world_dispatch.specs.World.{plain, moved_by, happens, run, run_lines, unhooked}
-use Rattle.ln_world_dispatch.specs.Seated.{Answers, Tables, says_at, next_answer}
+use Rattle.ln_world_dispatch.specs.Slots.{Answers, Tables, says_at, next_answer}
 use Rattle.ln_world_dispatch.specs.Hooked.{verdict_in, says_of, answered, HasRun}
 
 -- no hook has a slot

@@ -12,7 +12,7 @@ use Rattle.ln_world_dispatch.specs.declared.step.Step.TheVariants as step
 use Rattle.ln_world_dispatch.specs.Dispatcher.{Dispatcher, dispatcher_at}
 use Rattle.ln_world_dispatch.specs.World.{World, empty, next_event, happens, run, step_lines, run_lines, SomeMayFail}
 use Rattle.ln_world_dispatch.specs.Promises.{CallsFollow}
-use Rattle.ln_world_dispatch.specs.Seated.{Answers, says_at, Tables, Stand, Moved}
+use Rattle.ln_world_dispatch.specs.Slots.{Answers, says_at, Tables, Stand, Moved}
 
 -- what a dispatcher's hooks say of its next event, where its end holds that
 abbrev pub says_of : Answers → Option (ℕ × ChannelEvent) → Option Dispatcher → Verdict

@@ -1,6 +1,6 @@
 pub mod Dispatcher
 pub mod World
 pub mod Promises
-pub mod Seated
+pub mod Slots
 pub mod Hooked
 pub mod Kept

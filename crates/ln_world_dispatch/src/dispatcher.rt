@@ -99,7 +99,7 @@ impl Epoch {
 
     // The hook at this place of the list serves from the next event on.
     fn slot(&mut self, hook: usize) -> Result<(), Refusal>
-        ensures seated { OnOk result (self.new.epoch ≡ with_slot hook self.old.epoch) }
+        ensures slotted { OnOk result (self.new.epoch ≡ with_slot hook self.old.epoch) }
         ensures same_first { self.new.first ≡ self.old.first }
         ensures same_start { self.new.epoch.start ≡ self.old.epoch.start }
         ensures fails_for_memory_alone { IfErr result (λ e. e ≡ Refusal.Memory) }
@@ -273,7 +273,7 @@ impl Dispatcher {
 
     /// The hook at this place of the list serves from the next event on. 60 where there is no memory.
     pub(crate) fn slot(&mut self, hook: usize) -> Result<(), Refusal>
-        ensures seated { OnOk result (self.new.dispatcher ≡ registered hook self.old.dispatcher) }
+        ensures slotted { OnOk result (self.new.dispatcher ≡ registered hook self.old.dispatcher) }
         ensures keeps { (decided : End → Role → ℕ) → Keeps decided self.old → Keeps decided self.new }
         ensures fails_for_memory_alone { IfErr result (λ e. e ≡ Refusal.Memory) }
     {

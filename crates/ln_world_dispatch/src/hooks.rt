@@ -3,7 +3,7 @@
 ghost use Rattle.std.specs.Prelude.{◌≡◌, map, OnOk, IfErr};
 ghost use Rattle.ln_msgs.specs.declared.refusals.refusal.Refusal.TheVariants as refusal;
 ghost use Rattle.ln_world_channels.specs.WorldChannel.{is_node};
-ghost use Rattle.ln_world_dispatch.specs.Seated.{IsAside};
+ghost use Rattle.ln_world_dispatch.specs.Slots.{IsAside};
 
 use crate::dispatcher::Dispatcher;
 use ln_hooks::{ChannelEvent, Serve, Verdict, call_each};
@@ -49,7 +49,7 @@ impl<H: Serve> Tables<H> {
 
     // The hook gets the last slot of its epoch.
     fn slot(&mut self, hook: H) -> Result<(), Refusal>
-        ensures seated { OnOk result (self.new.now.items ≡ self.old.now.items ++ hook ∷ []) }
+        ensures slotted { OnOk result (self.new.now.items ≡ self.old.now.items ++ hook ∷ []) }
         ensures past { OnOk result (self.new.past.items ≡ self.old.past.items) }
         ensures fails_for_memory_alone { IfErr result (λ e. e ≡ refusal.Memory) }
     {
@@ -104,7 +104,7 @@ impl<H: Serve> Hooks<H> {
     ghost use Rattle.std.specs.Prelude.{get_or, set};
     ghost use Rattle.ln_msgs.specs.declared.refusals.refusal.Refusal.TheVariants as refusal;
     ghost use Rattle.ln_world_channels.specs.WorldChannel.{is_node};
-    ghost use Rattle.ln_world_dispatch.specs.Seated.{CallsAt, SlotsAt, Joins, AreAside};
+    ghost use Rattle.ln_world_dispatch.specs.Slots.{CallsAt, SlotsAt, Joins, AreAside};
     ghost use Rattle.ln_world_dispatch.specs.Kept.{dispatchers_of};
 
     /// Those that are handed in, none with a slot, and no dispatchers. 60 where there is no memory.
@@ -149,7 +149,7 @@ impl<H: Serve> Hooks<H> {
     /// The hook gets the last slot with the dispatcher at this place. 60 where there is no memory.
     pub(crate) fn slot(&mut self, place: usize, hook: H) -> Result<(), Refusal>
         requires { place < length self.old.tables.items }
-        ensures seated { OnOk result (SlotsAt H.calls place
+        ensures slotted { OnOk result (SlotsAt H.calls place
             (map (λ t. (t.now.items, map (λ p. p.items) t.past.items)) self.old.tables.items) hook
             (map (λ t. (t.now.items, map (λ p. p.items) t.past.items)) self.new.tables.items)) }
         ensures offered { self.new.offered.items ≡ self.old.offered.items }

@@ -6,7 +6,7 @@ ghost use Rattle.std.specs.Prelude.{ℕ, List};
 ghost use Rattle.ln_msgs.specs.declared.refusals.refusal.Refusal.TheVariants as refusal;
 ghost use Rattle.ln_hooks.specs.declared.verdict.Verdict.{Verdict};
 ghost use Rattle.ln_world_channels.specs.Promises.{Headline, NoneRefused, AllTaken, OneFee, Agrees};
-ghost use Rattle.ln_world_channels.specs.Promises.{AnswersShutdown, MarksAgree, BothClose, DoExactly};
+ghost use Rattle.ln_world_channels.specs.Promises.{AnswersShutdown, ReadinessAgrees, BothClose, DoExactly};
 ghost use Rattle.ln_world_channels.specs.Longest.{BasesAreLongest};
 ghost use Rattle.ln_world_channels.specs.Records.{HaveRecords};
 ghost use Rattle.ln_world_channels.specs.Sending.{NoneAddsLate};
@@ -56,9 +56,9 @@ pub fn agreement<K: ChannelKeys + Copy>()
     ensures { AfterEachRun K.ChannelKeys (OfEach Agrees) }
 {}
 
-/// A law: `ln_world_channels::marks_agree_at_rest`, of these steps.
-pub fn marks_agree_at_rest<K: ChannelKeys + Copy>()
-    ensures { AfterEachRun K.ChannelKeys (OfEach MarksAgree) }
+/// A law: `ln_world_channels::readiness_agrees_at_rest`, of these steps.
+pub fn readiness_agrees_at_rest<K: ChannelKeys + Copy>()
+    ensures { AfterEachRun K.ChannelKeys (OfEach ReadinessAgrees) }
 {}
 
 /// A law: `ln_world_channels::closing_ends`, of these steps.

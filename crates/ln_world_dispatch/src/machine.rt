@@ -28,8 +28,8 @@ pub fn each_move_may_be_made<K: ChannelKeys + Copy>()
         (run K.ChannelKeys steps (empty hooks)).channels }
 {}
 
-/// A law: `ln_world_channels::events_are_told`, of these steps.
-pub fn events_are_told<K: ChannelKeys + Copy>()
+/// A law: `ln_world_channels::events_are_reported`, of these steps.
+pub fn events_are_reported<K: ChannelKeys + Copy>()
     ensures { (steps : List (Step K K.ChannelKeys × Verdict)) (hooks number : ℕ) (side : Role)
         → EventsAreTold K.ChannelKeys number side (plains K.ChannelKeys steps (empty hooks)) }
 {}

@@ -140,7 +140,7 @@ fn write_at(
 
 /// The hook at this place of the list serves an end from its next event on. 60 where there is no memory.
 fn slot_at(dispatchers: &mut [Dispatcher], end: End, hook: usize) -> Result<(), Refusal>
-    ensures seated { OnOk result (dispatchers_of dispatchers.new
+    ensures slotted { OnOk result (dispatchers_of dispatchers.new
         ≡ at_dispatcher end (registered hook) (dispatchers_of dispatchers.old)) }
     ensures keep { (decided : End → Role → ℕ) → AllKeep decided dispatchers.old → AllKeep decided dispatchers.new }
     ensures fails_for_memory_alone { IfErr result (λ e. e ≡ refusal.Memory) }

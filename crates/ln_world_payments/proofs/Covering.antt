@@ -24,9 +24,10 @@ use Rattle.ln_world_channels.specs.declared.step.Node.{Node}
 use Rattle.ln_world_channels.specs.declared.step.Step.{Step as ChannelStep}
 use Rattle.ln_world_channels.specs.declared.step.Step.TheVariants as channel_step
 use Rattle.ln_world_channels.specs.Settings.{channel_id_of}
-use Rattle.ln_world_channels.specs.Both.{Both, Move, By, Falls, Halts, Restarts, Stops, Meet, moves, back}
+use Rattle.ln_world_channels.specs.Both.{Both, Move, By, Disconnects, Halts, Restarts, Stops, Meet, moves, back}
 use Rattle.ln_world_channels.specs.Both.{run as run_both}
-use Rattle.ln_world_channels.specs.WorldChannel.{WorldChannel, place_of, side_of, by, moved, act_moves, fall_moves}
+use Rattle.ln_world_channels.specs.WorldChannel.{WorldChannel, place_of, side_of, by, moved, act_moves}
+use Rattle.ln_world_channels.specs.WorldChannel.{disconnect_moves}
 use Rattle.ln_world_channels.specs.WorldChannel.{halt_moves, restart_moves}
 use Rattle.ln_world_channels.specs.WorldChannel.{stop_moves, up_moves, may_meet}
 use Rattle.ln_world_channels.specs.World.{World as Channels, channel, moved_if, may_be_done, may_open}
@@ -155,8 +156,8 @@ module _ {K : Type 0} (signer : K → Signer) (id : List ℕ) (p : Both K) (r : 
       (is_link signer id p r side).end (end_dropped (is_link signer id p r side).end) h (own_saved side) l
       (dropped_covers (is_link signer id p r side).end)
 
-  falls_cover : (side : Role) → own_covers Falls side
-  falls_cover side = let l = is_link signer id p r side in drops_cover Falls side l.halted
+  falls_cover : (side : Role) → own_covers Disconnects side
+  falls_cover side = let l = is_link signer id p r side in drops_cover Disconnects side l.halted
       (subst (λ z. LinkIs z (end_dropped l.end) l.halted) (sym (own_falls signer id side p))
       (drops_is id (place_of side p).link l))
 
@@ -206,7 +207,7 @@ module _ {K : Type 0} (signer : K → Signer) (id : List ℕ) (p : Both K) (r : 
   pub move_covers : (m : Move) (side : Role)
       → LinkCovers (Some (place_of side p).link) (Some (place_of side (moves signer id m p)).link)
   move_covers (By s a) side = each_side (λ z. By z a) (acts_side a) (acts_cover a) s side
-  move_covers (Falls s) side = each_side Falls falls_side falls_cover s side
+  move_covers (Disconnects s) side = each_side Disconnects falls_side falls_cover s side
   move_covers (Halts s) side = each_side Halts halts_side halts_cover s side
   move_covers (Restarts s) side = each_side Restarts restarts_side restarts_cover s side
   move_covers (Stops s a) side = each_side (λ z. Stops z a) (stops_side a) (stops_cover a) s side
@@ -294,8 +295,8 @@ module _ {K : Type 0} (k : Ghosts K) (n : Node) (d : ℕ) where
       either_covers (may_open z w) (channels.joined _ w) w (joined_covers _ w.channels)
   step_covers (channel_step.Do e a) w o = at_covers e.channel (act_moves e.node a)
       (λ c. by_short (side_of e.node c) (λ side. By side a)) w.channels o
-  step_covers (channel_step.Down e) w o = at_covers e.channel (fall_moves e.node)
-      (λ c. by_short (side_of e.node c) Falls) w.channels o
+  step_covers (channel_step.Down e) w o = at_covers e.channel (disconnect_moves e.node)
+      (λ c. by_short (side_of e.node c) Disconnects) w.channels o
   step_covers (channel_step.NoMemory e a) w o = either_covers (may_be_done e a w.channels)
       (channels.at k.signer e.channel (halt_moves e.node) w) w
       (at_covers e.channel (halt_moves e.node) (λ c. by_short (side_of e.node c) Halts) w.channels o)

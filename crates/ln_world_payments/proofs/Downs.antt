@@ -17,11 +17,11 @@ use Rattle.ln_book_tables.specs.declared.entry.PendingCommand.TheVariants as pen
 use Rattle.ln_book_tables.specs.declared.entry.Entry.TheVariants as entry
 use Rattle.ln_book_tables.specs.Replay.{Table, table_of, pending_command_at, htlc_kept, put_back_all, kept_at, is_among}
 use Rattle.ln_book_recovery.specs.Kept.{has_own_removal}
-use Rattle.ln_switch.specs.Uses.{told_of}
+use Rattle.ln_switch.specs.Uses.{kept_of}
 use Rattle.ln_world_channels.specs.declared.step.Node.{Node}
 use Rattle.ln_world_channels.specs.declared.step.End.{End}
 use Rattle.ln_world_channels.specs.Settings.{channel_id_of}
-use Rattle.ln_world_channels.specs.WorldChannel.{WorldChannel, fall_moves}
+use Rattle.ln_world_channels.specs.WorldChannel.{WorldChannel, disconnect_moves}
 use Rattle.ln_world_channels.specs.Promises.{Each}
 use Rattle.ln_world_channels.proofs.Kept.{IsOpen, fall_kept}
 use Rattle.ln_world_channels.proofs.Promised.{moved_so}
@@ -29,7 +29,7 @@ use Rattle.ln_world.specs.declared.node.NodeBook.{NodeBook}
 use Rattle.ln_world.specs.declared.step.Step.TheVariants as step
 use Rattle.ln_world.specs.Node.{Book, node_at, with_book}
 use Rattle.ln_world.specs.Follow.{followed}
-use Rattle.ln_world.specs.World.{World, happens, id_of, fallen, dropped, saved_dropped, saved_of}
+use Rattle.ln_world.specs.World.{World, happens, id_of, disconnected, dropped, saved_dropped, saved_of}
 use Rattle.ln_payment.specs.Moves.{is_of}
 use Rattle.ln_payment_circuits.specs.Snapshot.{IsIn, IsFit}
 use Rattle.ln_payment_circuits.proofs.Links.{Side, HasAddAt, course_at, removal_at}
@@ -37,7 +37,7 @@ use Rattle.ln_payment_circuits.proofs.Losses.{Drops}
 use Rattle.ln_payment_circuits.proofs.Kept.{none_kept}
 use Rattle.ln_payment_circuits.proofs.Shifts.{side_of as read_side}
 use Rattle.ln_payment_circuits.proofs.Entries.{is_same}
-use Rattle.ln_payment_circuits.proofs.Scenes.{Scene, HavePayments, falls}
+use Rattle.ln_payment_circuits.proofs.Scenes.{Scene, HavePayments, disconnects}
 use Rattle.ln_payment_circuits.proofs.Resumed.{HoldAlike}
 use Rattle.ln_payment_circuits.proofs.Agrees.{agrees_fewer}
 use Rattle.ln_world_payments.proofs.Scene.{link_in, links_of, scene_of, linked, now, no_node, either}
@@ -46,7 +46,7 @@ use Rattle.ln_world_payments.proofs.Lost.{fall_leaves}
 use Rattle.ln_world_payments.proofs.Books.{own_book, follow_alike, one_more, itself}
 use Rattle.ln_world_payments.proofs.Same.{IsSame, same_paid, same_agrees, one_id}
 use Rattle.ln_payment_circuits.proofs.Told.{covered, gone, none_removed}
-use Rattle.ln_world_channels.specs.Both.{Falls}
+use Rattle.ln_world_channels.specs.Both.{Disconnects}
 use Rattle.ln_world_payments.proofs.Answering.{LinkIs}
 use Rattle.ln_world_payments.proofs.Moving.{falls_side}
 
@@ -76,7 +76,7 @@ module _ {K : Type 0} (k : Ghosts K) (e : End) (w : World K)
   cs = w.dispatchers.channels.channels
 
   abbrev new : List (WorldChannel K)
-  new = now k.signer n e.channel (fall_moves n) cs
+  new = now k.signer n e.channel (disconnect_moves n) cs
 
   abbrev b : Book
   b = (node_at n w.nodes).book
@@ -88,7 +88,7 @@ module _ {K : Type 0} (k : Ghosts K) (e : End) (w : World K)
   behind v = scene_of n (happens k v (step.Down e) w)
 
   new_open : Each (IsOpen k.signer) new
-  new_open = moved_so k (IsOpen k.signer) e.channel (fall_moves n) (fall_kept k.signer n) cs open_
+  new_open = moved_so k (IsOpen k.signer) e.channel (disconnect_moves n) (fall_kept k.signer n) cs open_
 
   drops_so : Drops (is_of e.channel) (links_of n cs) (links_of n new)
   drops_so = down_drops k.signer n cs open_ n (itself n) e.channel
@@ -100,7 +100,7 @@ module _ {K : Type 0} (k : Ghosts K) (e : End) (w : World K)
 
   module _ (none : link_in n e.channel cs ≡ None) (v : Verdict) where
     none_now : link_in n e.channel new ≡ None
-    none_now = no_node k.signer n Falls falls_side n e.channel cs (itself n) none
+    none_now = no_node k.signer n Disconnects falls_side n e.channel cs (itself n) none
 
     none_same : IsSame before (behind v)
     none_same = record {
@@ -112,7 +112,7 @@ module _ {K : Type 0} (k : Ghosts K) (e : End) (w : World K)
       ];
       halted = halted_so;
       book =
-          ap (λ o. (table_of (node_at n (fallen e (happens k v
+          ap (λ o. (table_of (node_at n (disconnected e (happens k v
           (step.Down e) w).dispatchers o w.nodes)).book).htlcs) none_now;
     }
 
@@ -125,7 +125,7 @@ module _ {K : Type 0} (k : Ghosts K) (e : End) (w : World K)
       (halted : (links_of n cs).halted e.channel ≡ h) (v : Verdict) where
     book_now : (behind v).book ≡ (table_of (dropped e t b)).htlcs
     book_now =
-        ap (λ o. (table_of (node_at n (fallen e (happens k v
+        ap (λ o. (table_of (node_at n (disconnected e (happens k v
         (step.Down e) w).dispatchers o w.nodes)).book).htlcs) now_there
         ∙ ap (λ (z : NodeBook). (table_of z.book).htlcs)
         (own_book (λ z. followed new (with_book (dropped e t z.book) z)) (λ z. refl) n w.nodes)
@@ -135,7 +135,7 @@ module _ {K : Type 0} (k : Ghosts K) (e : End) (w : World K)
     y_side = ap (λ o. option_map read_side (saved_of o)) now_there
         ∙ ap (option_map read_side) (linked t (end_dropped x) h at)
 
-    -- one that has halted has fallen before
+    -- one that has halted has disconnected before
     halted_same : h ≡ true → end_dropped x ≡ x → IsSame before (behind v)
     halted_same is fell = record {
       sides = λ d. elim (either (d == e.channel)) [
@@ -150,7 +150,7 @@ module _ {K : Type 0} (k : Ghosts K) (e : End) (w : World K)
     -- one that works
     module _ (awake : h ≡ false) (idle : IsIdle e.channel b) where
       abbrev told : KeptState
-      told = told_of (id_of e) (end_dropped x) b
+      told = kept_of (id_of e) (end_dropped x) b
 
       book_dropped : (behind v).book ≡ map (htlc_kept (channel_id_of e.channel) told) before.book
       book_dropped = book_now
@@ -159,7 +159,7 @@ module _ {K : Type 0} (k : Ghosts K) (e : End) (w : World K)
           ∙ dropped_htlcs (channel_id_of e.channel) told b idle
 
       pub fallen_paid : HavePayments channel_id_of before → HavePayments channel_id_of (behind v)
-      fallen_paid = falls channel_id_of one_id before (behind v) e.channel told drops_so halted_so
+      fallen_paid = disconnects channel_id_of one_id before (behind v) e.channel told drops_so halted_so
           (halted ∙ awake) book_dropped
           (λ i lt. ap (λ o. is_uncovered (course_at i o)) x_side ∙ covered x x_fit i lt)
           (λ o i le a. gone x x_fit o i le (subst (HasAddAt o i) y_side a))
@@ -208,7 +208,7 @@ module _ {K : Type 0} (k : Ghosts K) (e : End) (w : World K)
       )
       cases (Some s) there =
           let h = link_is k.signer n cs open_ e.channel s there in
-          let q = link_now k.signer n cs open_ n (itself n) e.channel Falls falls_side (λ z. z)
+          let q = link_now k.signer n cs open_ n (itself n) e.channel Disconnects falls_side (λ z. z)
           (fall_leaves k.signer n cs open_) s there in
           let j = link_is k.signer n new new_open e.channel q.0 q.1 in
           let some : Some j.end ≡ Some (end_dropped h.end) =

@@ -10,20 +10,20 @@ use Rattle.ln_channel.specs.State.{State}
 use Rattle.ln_world_channels.specs.declared.step.Node.{Node}
 use Rattle.ln_world_channels.specs.declared.step.End.{End}
 use Rattle.ln_world_channels.specs.Settings.{channel_id_of}
-use Rattle.ln_world_channels.specs.Both.{Falls, Restarts}
-use Rattle.ln_world_channels.specs.WorldChannel.{is_node, fall_moves, restart_moves, moved}
+use Rattle.ln_world_channels.specs.Both.{Disconnects, Restarts}
+use Rattle.ln_world_channels.specs.WorldChannel.{is_node, disconnect_moves, restart_moves, moved}
 use Rattle.ln_world_channels.specs.World.{moved_if}
 use Rattle.ln_world_channels.specs.Promises.{Each}
 use Rattle.ln_world_channels.proofs.Kept.{IsOpen, fall_kept, restart_kept}
 use Rattle.ln_world_channels.proofs.Promised.{moved_so, all_so}
 use Rattle.ln_book_tables.specs.Replay.{table_of}
 use Rattle.ln_world_dispatch.specs.World.{World as Dispatchers}
-use Rattle.ln_switch.specs.Uses.{told_of}
+use Rattle.ln_switch.specs.Uses.{kept_of}
 use Rattle.ln_world.specs.declared.node.NodeBook.{NodeBook}
 use Rattle.ln_world.specs.declared.step.Step.TheVariants as step
 use Rattle.ln_world.specs.Node.{Book, node_at, with_book}
 use Rattle.ln_world.specs.Follow.{followed, begun_anew}
-use Rattle.ln_world.specs.World.{World, happens, id_of, link_at, fallen, dropped, saved_dropped, saved_of}
+use Rattle.ln_world.specs.World.{World, happens, id_of, link_at, disconnected, dropped, saved_dropped, saved_of}
 use Rattle.ln_payment_circuits.proofs.Shifts.{side_of as read_side}
 use Rattle.ln_world_payments.specs.Circuit.{has_halted}
 use Rattle.ln_world_payments.proofs.Scene.{scene_of, link_in, other_node, other_all, same_number}
@@ -41,11 +41,11 @@ module _ {K : Type 0} (k : Ghosts K) where
 
   calm_kept : (e : End) (o : Option ChannelEnd) (b : Book) → IsCalm b → IsCalm (saved_dropped e o b)
   calm_kept e None b h = h
-  calm_kept e (Some x) b h = calm_dropped (id_of e) (told_of (id_of e) x b) b h
+  calm_kept e (Some x) b h = calm_dropped (id_of e) (kept_of (id_of e) x b) b h
 
   calm_fallen : (e : End) (d : Dispatchers K) (o : Option (State K)) (xs : List NodeBook)
       → IsCalm (node_at e.node xs).book
-      → IsCalm (node_at e.node (fallen e d o xs)).book
+      → IsCalm (node_at e.node (disconnected e d o xs)).book
   calm_fallen e d None xs h = h
   calm_fallen e d (Some l) xs h =
       let x = node_at e.node xs in
@@ -65,9 +65,9 @@ module _ {K : Type 0} (k : Ghosts K) where
       let cs = w.dispatchers.channels.channels in
       let p = down k e w h.open_ v (h.calm (channel_id_of e.channel)) (h.paid, h.agrees) in
       record {
-        open_ = moved_so k (IsOpen k.signer) e.channel (fall_moves e.node) (fall_kept k.signer e.node) cs h.open_;
-        small = small_all (moved_if k.signer e.channel (fall_moves e.node))
-            (same_number k.signer e.node e.channel (fall_moves e.node)) cs h.small;
+        open_ = moved_so k (IsOpen k.signer) e.channel (disconnect_moves e.node) (fall_kept k.signer e.node) cs h.open_;
+        small = small_all (moved_if k.signer e.channel (disconnect_moves e.node))
+            (same_number k.signer e.node e.channel (disconnect_moves e.node)) cs h.small;
         calm = calm_fallen e (happens k v (step.Down e) w).dispatchers
             (link_at e (happens k v (step.Down e) w).dispatchers.channels.channels) w.nodes h.calm;
         paid = p.0;
@@ -97,7 +97,7 @@ module _ {K : Type 0} (k : Ghosts K) where
 
     pub fallen_else : (e : End) → is_node e.node n ≡ false
         → (d : Dispatchers K) (o : Option (State K)) (xs : List NodeBook)
-        → node_at n (fallen e d o xs) ≡ node_at n xs
+        → node_at n (disconnected e d o xs) ≡ node_at n xs
     fallen_else e isnt d None xs = refl
     fallen_else e isnt d (Some l) xs =
         other_book (λ z. followed d.channels.channels (with_book (dropped e l z.book) z)) (λ z. refl) e.node n isnt xs
@@ -107,10 +107,10 @@ module _ {K : Type 0} (k : Ghosts K) where
     other_falls e isnt v w h =
         let cs = w.dispatchers.channels.channels in
         others_well w (happens k v (step.Down e) w)
-        (moved_so k (IsOpen k.signer) e.channel (fall_moves e.node) (fall_kept k.signer e.node) cs h.open_)
-        (small_all (moved_if k.signer e.channel (fall_moves e.node))
-        (same_number k.signer e.node e.channel (fall_moves e.node)) cs h.small)
-        (λ d. other_node k.signer e.node Falls falls_side n e.channel cs isnt d)
+        (moved_so k (IsOpen k.signer) e.channel (disconnect_moves e.node) (fall_kept k.signer e.node) cs h.open_)
+        (small_all (moved_if k.signer e.channel (disconnect_moves e.node))
+        (same_number k.signer e.node e.channel (disconnect_moves e.node)) cs h.small)
+        (λ d. other_node k.signer e.node Disconnects falls_side n e.channel cs isnt d)
         (fallen_else e isnt (happens k v (step.Down e) w).dispatchers
         (link_at e (happens k v (step.Down e) w).dispatchers.channels.channels) w.nodes) h
 

@@ -7,7 +7,7 @@ use Rattle.ln_hooks.specs.declared.verdict.Verdict.{Verdict}
 use Rattle.ln_world_channels.specs.declared.step.Act.{Act as ChannelAct}
 use Rattle.ln_world_channels.specs.declared.step.Node.{Node}
 use Rattle.ln_world_channels.specs.declared.step.End.{End}
-use Rattle.ln_world_channels.specs.Both.{Falls, Restarts}
+use Rattle.ln_world_channels.specs.Both.{Disconnects, Restarts}
 use Rattle.ln_world_channels.specs.WorldChannel.{is_node}
 use Rattle.ln_world_dispatch.specs.declared.step.Step.TheVariants as dispatcher_step
 use Rattle.ln_world_dispatch.specs.Dispatcher.{Dispatcher}
@@ -127,7 +127,7 @@ module _ {K : Type 0} (k : Ghosts K) where
 
       others_fall : Holds k n (happens k v (step.Down e) w)
       others_fall = others_hold (happens k v (step.Down e) w) (other_falls k n e isnt v w h.well)
-          (λ d. other_node k.signer e.node Falls falls_side n e.channel w.dispatchers.channels.channels isnt d)
+          (λ d. other_node k.signer e.node Disconnects falls_side n e.channel w.dispatchers.channels.channels isnt d)
           (fallen_else k n e isnt (happens k v (step.Down e) w).dispatchers
           (link_at e (happens k v (step.Down e) w).dispatchers.channels.channels) w.nodes) (λ d i is. is)
 

@@ -26,7 +26,7 @@ use Rattle.ln_book_tables.specs.Replay.{Table, table_of, pending_command_at, put
 use Rattle.ln_world_channels.specs.declared.step.Act.{Act as ChannelAct}
 use Rattle.ln_world_channels.specs.declared.step.Node.{Node}
 use Rattle.ln_world_channels.specs.declared.step.End.{End}
-use Rattle.ln_world_channels.specs.Both.{Both, Move, Falls, Halts, moves}
+use Rattle.ln_world_channels.specs.Both.{Both, Move, Disconnects, Halts, moves}
 use Rattle.ln_world_channels.specs.WorldChannel.{WorldChannel, is_node, place_of}
 use Rattle.ln_world_channels.specs.World.{channel}
 use Rattle.ln_world_channels.specs.Promises.{Each}
@@ -34,13 +34,13 @@ use Rattle.ln_world_channels.proofs.Kept.{IsOpen}
 use Rattle.ln_world_dispatch.specs.declared.step.Step.TheVariants as dispatcher_step
 use Rattle.ln_world_dispatch.specs.Dispatcher.{Dispatcher, serving, registered, at_dispatcher}
 use Rattle.ln_world_dispatch.specs.World.{World as Dispatchers, next_event, served_at, may_register}
-use Rattle.ln_switch.specs.Uses.{told_of}
+use Rattle.ln_switch.specs.Uses.{kept_of}
 use Rattle.ln_world.specs.declared.node.NodeBook.{NodeBook}
 use Rattle.ln_world.specs.declared.step.Act.{Act}
 use Rattle.ln_world.specs.declared.step.Step.TheVariants as step
 use Rattle.ln_world.specs.Node.{Book, node_at, with_policy, with_book}
 use Rattle.ln_world.specs.Follow.{followed}
-use Rattle.ln_world.specs.World.{World, happens, is_height, moved_by, unbegun, fallen, dropped, saved_dropped}
+use Rattle.ln_world.specs.World.{World, happens, is_height, moved_by, unbegun, disconnected, dropped, saved_dropped}
 use Rattle.ln_world.specs.World.{id_of, link_at}
 use Rattle.ln_world.specs.World.{saved_of}
 use Rattle.ln_payment_circuits.specs.Snapshot.{IsIn}
@@ -141,12 +141,12 @@ dropped_later c told b idle = record {
 
 saved_later : (e : End) (o : Option ChannelEnd) (b : Book) → IsCalm b → BookLater b (saved_dropped e o b)
 saved_later e None b h = book_alike b b (alike b)
-saved_later e (Some x) b h = dropped_later (id_of e) (told_of (id_of e) x b) b (h (id_of e))
+saved_later e (Some x) b h = dropped_later (id_of e) (kept_of (id_of e) x b) b (h (id_of e))
 
 module _ {K : Type 0} where
   fallen_later : (e : End) (d : Dispatchers K) (o : Option (State K)) (xs : List NodeBook)
       → IsCalm (node_at e.node xs).book
-      → BookLater (node_at e.node xs).book (node_at e.node (fallen e d o xs)).book
+      → BookLater (node_at e.node xs).book (node_at e.node (disconnected e d o xs)).book
   fallen_later e d None xs h =
       book_alike (node_at e.node xs).book (node_at e.node xs).book (alike (node_at e.node xs).book)
   fallen_later e d (Some l) xs h =
@@ -178,7 +178,7 @@ module _ {K : Type 0} (k : Ghosts K) where
       record {
         well = down_well k e v w h.well;
         order = orderly e.node w u
-            (lost_later k.signer e.node cs h.well.open_ e.node (itself e.node) e.channel Falls
+            (lost_later k.signer e.node cs h.well.open_ e.node (itself e.node) e.channel Disconnects
             falls_side (λ z. z) (λ z is. is)
             (fall_leaves k.signer e.node cs h.well.open_)) b.queue b.htlcs (λ c i is. is) h.order;
       }

@@ -11,8 +11,8 @@ use Rattle.ln_channel.specs.State.{State}
 use Rattle.ln_world_channels.specs.declared.step.Node.{Node}
 use Rattle.ln_world_channels.specs.Settings.{channel_id_of}
 use Rattle.ln_world_channels.proofs.Mirror.{link_at}
-use Rattle.ln_world_channels.specs.Both.{Both, Move, Falls, Halts, moves}
-use Rattle.ln_world_channels.specs.WorldChannel.{WorldChannel, is_node, place_of, side_of, fall_moves, halt_moves}
+use Rattle.ln_world_channels.specs.Both.{Both, Move, Disconnects, Halts, moves}
+use Rattle.ln_world_channels.specs.WorldChannel.{WorldChannel, is_node, place_of, side_of, disconnect_moves, halt_moves}
 use Rattle.ln_world_channels.specs.World.{channel}
 use Rattle.ln_world_channels.specs.Promises.{Each}
 use Rattle.ln_world_channels.proofs.Kept.{IsOpen}
@@ -82,7 +82,7 @@ module _ {K : Type 0} (signer : K → Signer) (n : Node) (cs : List (WorldChanne
         cases None e = subst (λ o. IsSoundSide (option_map read_side (saved_of o))) (sym e) tt
         cases (Some s) e = subst IsSoundSide (sym (side_is d s e)) (link_is d s e).is.fit.sound
 
-    -- ---- a node's end falls, or halts
+    -- ---- a node's end disconnects, or halts
 
     dropped_now : (c : ℕ) (s new : State K) (e : link_in n c cs ≡ Some s) (h : Bool)
         → LinkIs new (end_dropped (link_is c s e).end) h
@@ -161,7 +161,7 @@ module _ {K : Type 0} (signer : K → Signer) (n : Node) (cs : List (WorldChanne
     -- ---- Down
 
     pub fall_leaves : (id : List ℕ) (r : Role) (p : Both K) (h : IsLink id (place_of r p).link)
-        → LinkIs (place_of r (moves signer id (Falls r) p)).link (end_dropped h.end) h.halted
+        → LinkIs (place_of r (moves signer id (Disconnects r) p)).link (end_dropped h.end) h.halted
     fall_leaves id r p h = subst (λ l. LinkIs l (end_dropped h.end) h.halted) (sym (own_falls signer id r p))
         (drops_is id (place_of r p).link h)
 
@@ -172,20 +172,22 @@ module _ {K : Type 0} (signer : K → Signer) (n : Node) (cs : List (WorldChanne
 
     module _ (m : Node) (own : is_node m n ≡ true) (at : ℕ) where
       -- the connection is lost
-      pub down_drops : Drops (is_of at) (links_of n cs) (links_of n (now signer n at (fall_moves m) cs))
-      down_drops = all_drop m own at Falls falls_side (λ b. b) fall_leaves
+      pub down_drops : Drops (is_of at) (links_of n cs) (links_of n (now signer n at (disconnect_moves m) cs))
+      down_drops = all_drop m own at Disconnects falls_side (λ b. b) fall_leaves
 
-      pub down_halted : (d : ℕ) → (links_of n (now signer n at (fall_moves m) cs)).halted d ≡ (links_of n cs).halted d
+      pub down_halted : (d : ℕ) → (links_of n (now signer n at (disconnect_moves m) cs)).halted d
+          ≡ (links_of n cs).halted d
       down_halted d = elim (either (d == at)) [
-        | inr isnt ↦ halted_else m own at Falls falls_side (λ b. b) fall_leaves d isnt
-        | inl is ↦ subst (λ k. (links_of n (now signer n at (fall_moves m) cs)).halted k ≡ (links_of n cs).halted k)
+        | inr isnt ↦ halted_else m own at Disconnects falls_side (λ b. b) fall_leaves d isnt
+        | inl is ↦ subst (λ k. (links_of n (now signer n at (disconnect_moves m) cs)).halted k
+            ≡ (links_of n cs).halted k)
             (sym (eqb-true d at is)) (cases (link_in n at cs) refl)
       ]
         where
           cases : (o : Option (State K)) → link_in n at cs ≡ o
-              → (links_of n (now signer n at (fall_moves m) cs)).halted at ≡ (links_of n cs).halted at
-          cases None e = ap has_halted (no_node signer m Falls falls_side n at cs own e) ∙ ap has_halted (sym e)
-          cases (Some s) e = halted_at m own at Falls falls_side (λ b. b) fall_leaves s e
+              → (links_of n (now signer n at (disconnect_moves m) cs)).halted at ≡ (links_of n cs).halted at
+          cases None e = ap has_halted (no_node signer m Disconnects falls_side n at cs own e) ∙ ap has_halted (sym e)
+          cases (Some s) e = halted_at m own at Disconnects falls_side (λ b. b) fall_leaves s e
 
       -- there is no memory
       pub halt_drops : Drops (is_of at) (links_of n cs) (links_of n (now signer n at (halt_moves m) cs))

@@ -19,7 +19,8 @@ use Rattle.ln_channel.specs.Step.{Done, handled, commanded}
 use Rattle.ln_world_channels.specs.declared.step.Act.{Act}
 use Rattle.ln_world_channels.specs.declared.step.Act.TheVariants as act
 use Rattle.ln_world_channels.specs.Both.{SimEnd, Both, delivers, left, unchanged, acts, back}
-use Rattle.ln_world_channels.specs.Both.{first_message, greeted, comes_up, moves, Move, By, Falls, Halts, Restarts}
+use Rattle.ln_world_channels.specs.Both.{first_message, greeted, comes_up, moves, Move, By, Disconnects}
+use Rattle.ln_world_channels.specs.Both.{Halts, Restarts}
 use Rattle.ln_world_channels.specs.Both.{Stops, Meet}
 use Rattle.ln_world_channels.specs.WorldChannel.{place_of}
 use Rattle.ln_world_channels.proofs.Mirror.{link_at, reached_link}
@@ -81,7 +82,7 @@ IsSide Fundee Funder = ⊥
 
 abbrev pub IsOfSide : Move → Role → Type 0
 IsOfSide (By r a) s = IsSide r s
-IsOfSide (Falls r) s = IsSide r s
+IsOfSide (Disconnects r) s = IsSide r s
 IsOfSide (Halts r) s = IsSide r s
 IsOfSide (Restarts r) s = IsSide r s
 IsOfSide (Stops r a) s = IsSide r s
@@ -95,7 +96,7 @@ pub stops_side : (a : Act) (s : Role) → IsOfSide (Stops s a) s
 stops_side a Funder = tt
 stops_side a Fundee = tt
 
-pub falls_side : (s : Role) → IsOfSide (Falls s) s
+pub falls_side : (s : Role) → IsOfSide (Disconnects s) s
 falls_side Funder = tt
 falls_side Fundee = tt
 
@@ -168,7 +169,7 @@ module _ {K : Type 0} (signer : K → Signer) (id : List ℕ) where
   own_acts Fundee a p h = x_acts a (record { x = p.y; y = p.x }) h
 
   pub own_falls : (side : Role) (p : Both K)
-      → (place_of side (moves signer id (Falls side) p)).link ≡ drops (place_of side p).link
+      → (place_of side (moves signer id (Disconnects side) p)).link ≡ drops (place_of side p).link
   unfolding moves
   own_falls Funder p = refl
   own_falls Fundee p = refl
@@ -197,10 +198,10 @@ module _ {K : Type 0} (signer : K → Signer) (id : List ℕ) where
       cases (By Fundee a) Fundee h = y_stays a (record { x = p.y; y = p.x })
       cases (By Funder a) Fundee h = absurd h
       cases (By Fundee a) Funder h = absurd h
-      cases (Falls Funder) Funder h = refl
-      cases (Falls Fundee) Fundee h = refl
-      cases (Falls Funder) Fundee h = absurd h
-      cases (Falls Fundee) Funder h = absurd h
+      cases (Disconnects Funder) Funder h = refl
+      cases (Disconnects Fundee) Fundee h = refl
+      cases (Disconnects Funder) Fundee h = absurd h
+      cases (Disconnects Fundee) Funder h = absurd h
       cases (Halts Funder) Funder h = refl
       cases (Halts Fundee) Fundee h = refl
       cases (Halts Funder) Fundee h = absurd h

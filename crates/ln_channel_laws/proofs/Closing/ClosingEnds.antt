@@ -23,7 +23,7 @@ use Rattle.ln_channel_laws.proofs.Fees.Deals.{deal_of, offers_in}
 use Rattle.ln_channel_laws.proofs.Machine.TurnMoves.{log_within}
 use Rattle.ln_channel_laws.proofs.Ends.JustOpened.{opened_fresh, opened_holds}
 use Rattle.ln_channel_laws.proofs.Fees.FeesOverRuns.{At, priced_at}
-use Rattle.ln_channel_laws.proofs.Ends.Promised.{at_end, marks_agree}
+use Rattle.ln_channel_laws.proofs.Ends.Promised.{at_end, readiness_agrees}
 use Rattle.ln_channel_laws.proofs.Fees.OneFee.{all_taken}
 use Rattle.ln_channel_laws.proofs.Fees.OwnRules.{Firm, both_closed}
 use Rattle.ln_channel_laws.proofs.Fees.FirstFee.{not_begun, Bids, given}
@@ -116,10 +116,10 @@ both_close a b s c funder fundee steps keys o g quiet dx dy =
       not_begun Connected start.x (ap (λ (q : Closing). q.peer_shut) fresh.funder_is),
       not_begun Connected start.y (ap (λ (q : Closing). q.peer_shut) fresh.fundee_is),
     ) in
-    let marks = marks_agree a b s c funder fundee steps keys o quiet in
-    let begun_x = begun_of x.shut x.peer_shut (is_settled p.x.dance.log) dx.shut (marks.1.shutdown ∙ dy.shut)
+    let ready = readiness_agrees a b s c funder fundee steps keys o quiet in
+    let begun_x = begun_of x.shut x.peer_shut (is_settled p.x.dance.log) dx.shut (ready.1.shutdown ∙ dy.shut)
     dx.settled in
-    let begun_y = begun_of y.shut y.peer_shut (is_settled p.y.dance.log) dy.shut (marks.0.shutdown ∙ dx.shut)
+    let begun_y = begun_of y.shut y.peer_shut (is_settled p.y.dance.log) dy.shut (ready.0.shutdown ∙ dx.shut)
     dy.settled in
     let there : y.peer_fee ≡ x.own_fee = ap (λ ms. hears y.peer_fee (offers_in ms)) (sym quiet.to_y)
     ∙ h.last quiet.x_met (met_up p.y_line quiet.y_met) in

@@ -16,8 +16,9 @@ use Rattle.ln_channel_laws.proofs.Flight.Sides.{Again, Side, updates_of, again_s
 use Rattle.ln_channel_laws.proofs.Flight.Sides.{owed}
 use Rattle.ln_channel_laws.proofs.Flight.Sides.{ready_again, shutdown_again, all_owed}
 use Rattle.ln_channel_laws.proofs.Flight.Walk.{Sender, sender, Reads, LacksNothing, holds, IsWithin, Carries, InFlight}
-use Rattle.ln_channel_laws.proofs.Marks.MarksInFlight.{MarksOf, ReadsMarks, AllMarks, marks_of, CarriesMarks}
-use Rattle.ln_channel_laws.proofs.Marks.MarksInFlight.{MarksFlight}
+use Rattle.ln_channel_laws.proofs.Readiness.ReadinessInFlight.{ReadinessOf, ReadsReadiness, AllReadiness}
+use Rattle.ln_channel_laws.proofs.Readiness.ReadinessInFlight.{readiness_of, CarriesReadiness}
+use Rattle.ln_channel_laws.proofs.Readiness.ReadinessInFlight.{ReadinessFlight}
 use Rattle.ln_channel_laws.proofs.Closing.NothingMoves.{HasBegun, covers_all}
 
 -- a fee that a side with these fees sends: its first, or one that isn't above its greatest
@@ -159,10 +160,10 @@ module _ (k : Signer) (f : Fees) where
   one_less w r s got u ms h = subst (λ n. Closes k f w r s n ms) (sym (length-append got (u ∷ []))) h
 
   -- one more behind them
-  closes-last : (w : Sender) (t : MarksOf) (v : Closer) (own held : List Change) (all : ℕ)
+  closes-last : (w : Sender) (t : ReadinessOf) (v : Closer) (own held : List Change) (all : ℕ)
       (Q : List Change → ℕ → ℕ → ℕ → Type 0) (P : Bool → Bool → Type 0) (got : List Change) (a c r : ℕ) (q s : Bool)
       (ms ns : List Notice) → ((gs : List Change) (b d j : ℕ) (p z : Bool) → Q gs b d j → P p z
-      → Closes k f v j z (length gs) ns) → Reads w own held all Q got a c r ms → ReadsMarks t P q s ms
+      → Closes k f v j z (length gs) ns) → Reads w own held all Q got a c r ms → ReadsReadiness t P q s ms
       → Closes k f v r s (length got) ms → Closes k f v r s (length got) (ms ++ ns)
   closes-last w t v own held all Q P got a c r q s [] ns e h i j = e got a c r q s h i
   closes-last w t v own held all Q P got a c r q s (Update u ∷ ms) ns e h i j =
@@ -181,12 +182,12 @@ module _ (k : Signer) (f : Fees) where
   closes-last w t v own held all Q P got a c r q s (Again m ∷ ms) ns e h i j = absurd h
 
   -- behind messages of which none is one
-  closes-behind : (w : Sender) (t : MarksOf) (v : Closer) (own held : List Change) (all : ℕ)
+  closes-behind : (w : Sender) (t : ReadinessOf) (v : Closer) (own held : List Change) (all : ℕ)
       (Q : List Change → ℕ → ℕ → ℕ → Type 0) (P : Bool → Bool → Type 0) (got : List Change) (a c r : ℕ) (q s : Bool)
       (ms ns : List Notice) → NoCloses ms → ((gs : List Change) (b d j : ℕ) (p z : Bool)
       → Reads w own held all Q gs b d j ns
-      → ReadsMarks t P p z ns → Closes k f v j z (length gs) ns) → Reads w own held all Q got a c r (ms ++ ns)
-      → ReadsMarks t P q s (ms ++ ns) → Closes k f v r s (length got) (ms ++ ns)
+      → ReadsReadiness t P p z ns → Closes k f v j z (length gs) ns) → Reads w own held all Q got a c r (ms ++ ns)
+      → ReadsReadiness t P q s (ms ++ ns) → Closes k f v r s (length got) (ms ++ ns)
   closes-behind w t v own held all Q P got a c r q s [] ns n e h i = e got a c r q s h i
   closes-behind w t v own held all Q P got a c r q s (Update u ∷ ms) ns n e h i =
       one_more v r s got u (ms ++ ns) (closes-behind w t v own held all Q P (got ++ u ∷ []) a c r q s ms ns n e h.1 i.3)
@@ -212,13 +213,13 @@ module _ (k : Signer) (f : Fees) where
 
   dealt_closes_by : (x y : Side) (m : Option ClosingSigned) (c : Bool) (sent : Option ClosingSigned)
       (to_y : List Notice) → HasBegun x → IsWithin x
-      → Carries Connected x y to_y → CarriesMarks Connected x y to_y
+      → Carries Connected x y to_y → CarriesReadiness Connected x y to_y
       → (has_bid x ≡ true → is_some m ≡ true) → (is_some sent ≡ true → is_some m ≡ true) → SignsAll k f sent
       → Closes k f (closer x) y.revocations y.peer_shut (length y.got) to_y
       → Closes k f (closer (dealt m c x)) y.revocations y.peer_shut (length y.got) (to_y ++ closes_of sent)
   dealt_closes_by x y m c sent to_y b w h i bd st sg j =
-      closes-last (sender x) (marks_of x y) (closer (dealt m c x)) y.own (holds y) y.signed.own
-      (LacksNothing x.own x.current.peer x.signatures x.number) (AllMarks x.ready x.shut y.closed) y.got y.acked.own
+      closes-last (sender x) (readiness_of x y) (closer (dealt m c x)) y.own (holds y) y.signed.own
+      (LacksNothing x.own x.current.peer x.signatures x.number) (AllReadiness x.ready x.shut y.closed) y.got y.acked.own
       y.number y.revocations y.peer_ready y.peer_shut to_y (closes_of sent)
       (λ gs e d n p z l a. none_more sent (closer (dealt m c x)) n z (length gs) sg
       (λ is. (st is, l.revoked, a.1 ∙ b.shut_sent, ap length l.has_all ∙ sym (covers_all x w b).0))) h i
@@ -227,7 +228,7 @@ module _ (k : Signer) (f : Fees) where
   pub dealt_closes : (ly : ConnectionState) (x y : Side) (m : Option ClosingSigned) (c : Bool)
       (sent : Option ClosingSigned)
       (to_y : List Notice) → HasBegun x → IsWithin x → InFlight Connected ly x y to_y
-      → MarksFlight Connected ly x y to_y
+      → ReadinessFlight Connected ly x y to_y
       → (has_bid x ≡ true → is_some m ≡ true) → (is_some sent ≡ true → is_some m ≡ true) → SignsAll k f sent
       → Closes k f (closer x) y.revocations y.peer_shut (length y.got) to_y
       → Closes k f (closer (dealt m c x)) y.revocations y.peer_shut (length y.got) (posts ly (closes_of sent) to_y)
@@ -275,28 +276,29 @@ module _ (k : Signer) (f : Fees) where
       (when_none (r + 1 == x.number) (Revoke x.revocation ∷ []) tt)
 
   again_by : (n r : ℕ) (x y : Side) → IsWithin x → (has_bid x ≡ true → HasBegun x) → SignsAll k f x.close_message
-      → Carries Connected x y (all_owed n r x) → CarriesMarks Connected x y (all_owed n r x)
+      → Carries Connected x y (all_owed n r x) → CarriesReadiness Connected x y (all_owed n r x)
       → Closes k f (closer x) y.revocations y.peer_shut (length y.got) (all_owed n r x)
   again_by n r x y w b sg h i =
       let Q = LacksNothing x.own x.current.peer x.signatures x.number in
-      let P = AllMarks x.ready x.shut y.closed in
+      let P = AllReadiness x.ready x.shut y.closed in
       let v = closer x in
       let closes = closes_of x.close_message in
       let tail = shutdown_again x ++ closes in
-      closes-behind (sender x) (marks_of x y) v y.own (holds y) y.signed.own Q P y.got y.acked.own y.number
+      closes-behind (sender x) (readiness_of x y) v y.own (holds y) y.signed.own Q P y.got y.acked.own y.number
       y.revocations
       y.peer_ready y.peer_shut (ready_again n x) (owed n r x ++ tail)
       (when_none ((x.number == 0) && (n == 1) && x.ready) (Ready x.ready_message ∷ []) tt)
-      (λ gs a c j q s. closes-behind (sender x) (marks_of x y) v y.own (holds y) y.signed.own Q P gs a c j q s
+      (λ gs a c j q s. closes-behind (sender x) (readiness_of x y) v y.own (holds y) y.signed.own Q P gs a c j q s
       (owed n r x) tail (owed_none n r x)
-      (λ gs2 a2 c2 j2 q2 s2. closes-behind (sender x) (marks_of x y) v y.own (holds y) y.signed.own Q P gs2 a2 c2 j2 q2
+      (λ gs2 a2 c2 j2 q2 s2. closes-behind (sender x) (readiness_of x y) v y.own (holds y) y.signed.own Q P gs2 a2 c2
+      j2 q2
       s2
       (shutdown_again x) closes (when_none x.shut (Shutdown x.shut_message ∷ []) tt)
       (λ gs3 a3 c3 j3 q3 s3. last x.close_message refl gs3 a3 c3 j3 q3 s3))) h i
     where
       last : (o : Option ClosingSigned) → x.close_message ≡ o → (gs : List Change) (a c j : ℕ) (q s : Bool)
           → Reads (sender x) y.own (holds y) y.signed.own (LacksNothing x.own x.current.peer x.signatures x.number) gs a
-          c j (closes_of o) → ReadsMarks (marks_of x y) (AllMarks x.ready x.shut y.closed) q s (closes_of o)
+          c j (closes_of o) → ReadsReadiness (readiness_of x y) (AllReadiness x.ready x.shut y.closed) q s (closes_of o)
           → Closes k f (closer x) j s (length gs) (closes_of o)
       last None e gs a c j q s h i = tt
       last (Some m) e gs a c j q s h i =
@@ -309,7 +311,7 @@ module _ (k : Signer) (f : Fees) where
   pub again_closes : (ly : ConnectionState) (n r : ℕ) (x y : Side) (to_y : List Notice) → IsWithin x
       → (has_bid x ≡ true → HasBegun x) → SignsAll k f x.close_message
       → InFlight AwaitingReestablish ly x y to_y → InFlight Connected ly x y (posts ly (all_owed n r x) to_y)
-      → MarksFlight Connected ly x y (posts ly (all_owed n r x) to_y)
+      → ReadinessFlight Connected ly x y (posts ly (all_owed n r x) to_y)
       → Closes k f (closer x) y.revocations y.peer_shut (length y.got) to_y
       → Closes k f (closer x) y.revocations y.peer_shut (length y.got) (posts ly (all_owed n r x) to_y)
   again_closes Down n r x y to_y w b sg g h i j = j

@@ -29,7 +29,7 @@ use Rattle.ln_channel_laws.specs.Promises.{IsTaken, AreSent}
 use Rattle.ln_channel_laws.proofs.Tests.{both_true}
 use Rattle.ln_channel_laws.proofs.Flight.Sides.{Notice, Close, Side}
 use Rattle.ln_channel_laws.proofs.Flight.Walk.{AllFit, Phase, Idle, Sent, Answered, LacksNothing, Flows}
-use Rattle.ln_channel_laws.proofs.Marks.MarksInFlight.{NoneOpens, MarksFlow}
+use Rattle.ln_channel_laws.proofs.Readiness.ReadinessInFlight.{NoneOpens, ReadinessFlow}
 use Rattle.ln_channel_laws.proofs.Flight.WalkOverActs.{fit-behind, signed_is, number_is}
 use Rattle.ln_channel_laws.proofs.Closing.NothingMoves.{HasBegun, Ending, no_removal, covers_all}
 use Rattle.ln_channel_laws.proofs.Closing.ClosingInFlight.{IsOffer, ClosesFlow}
@@ -51,7 +51,8 @@ acked_is s a c am sm current e (Sent e1 e2 e3 e4) = (e3, e4)
 acked_is s a c am sm current e (Answered e1 e2 e3 e4) = absurd (omega (arith, e, e1, e2))
 
 both_begun : (lx ly : ConnectionState) (x y : Side) (ms ns : List Notice) → Flows lx ly x y ms → Flows ly lx y x ns
-    → MarksFlow ly lx y x ns → HasBegun x → LacksNothing x.own x.current.peer x.signatures x.number y.got y.acked.own
+    → ReadinessFlow ly lx y x ns → HasBegun x
+    → LacksNothing x.own x.current.peer x.signatures x.number y.got y.acked.own
     y.number y.revocations → y.peer_shut ≡ true → HasBegun y
 both_begun lx ly x y ms ns f g t b l peer =
     let w = f.within in
@@ -92,7 +93,7 @@ both_begun lx ly x y ms ns f g t b l peer =
 -- ---- who takes a closing_signed has begun
 
 taker_begun : (lx ly : ConnectionState) (k : Signer) (f : Fees) (x y : Side) (m : ClosingSigned) (ms ns : List Notice)
-    → Flows lx ly x y ms → Flows ly lx y x (Close m ∷ ns) → MarksFlow lx ly x y ms → Ending y x
+    → Flows lx ly x y ms → Flows ly lx y x (Close m ∷ ns) → ReadinessFlow lx ly x y ms → Ending y x
     → ClosesFlow k f y x (Close m ∷ ns) → HasBegun x
 taker_begun lx ly k f x y m ms ns there back told ended due =
     let at = due.0 in

@@ -26,10 +26,11 @@ use Rattle.ln_channel_laws.proofs.Flight.Sides.{dropped}
 use Rattle.ln_channel_laws.proofs.Flight.Walk.{FitsBehind, Sender, sender, IsDue, IsNext, Reads}
 use Rattle.ln_channel_laws.proofs.Flight.Walk.{LacksNothing}
 use Rattle.ln_channel_laws.proofs.Flight.Walk.{Anywhere, holds, IsWithin, Flows}
-use Rattle.ln_channel_laws.proofs.Marks.MarksInFlight.{IsAllowed, MarksOf, ReadsMarks, AllMarks, AnyMarks, marks_of}
-use Rattle.ln_channel_laws.proofs.Marks.MarksInFlight.{MarksFlow}
+use Rattle.ln_channel_laws.proofs.Readiness.ReadinessInFlight.{IsAllowed, ReadinessOf, ReadsReadiness}
+use Rattle.ln_channel_laws.proofs.Readiness.ReadinessInFlight.{AllReadiness, AnyReadiness, readiness_of}
+use Rattle.ln_channel_laws.proofs.Readiness.ReadinessInFlight.{ReadinessFlow}
 use Rattle.ln_channel_laws.proofs.Flight.WalkOverActs.{unaccepted, revoked_for, number_is}
-use Rattle.ln_channel_laws.proofs.Marks.MarksOverActs.{IsStill, allowed_own}
+use Rattle.ln_channel_laws.proofs.Readiness.ReadinessOverActs.{IsStill, allowed_own}
 
 -- both have shut down, every update stands acknowledged in both commitments, and no HTLC is live
 pub record Begun (shut peer_shut : Bool) (acked current : Counts) (own got : List Change) : Type 0 where
@@ -114,10 +115,10 @@ no_removal o r own seen held u e f h = removes_none o r own seen held u e f h.wi
 
 -- ---- what is in flight to an end that has begun
 
-still_by : (w : Sender) (t : MarksOf) (own held : List Change) (all : ℕ) (Q : List Change → ℕ → ℕ → ℕ → Type 0)
+still_by : (w : Sender) (t : ReadinessOf) (own held : List Change) (all : ℕ) (Q : List Change → ℕ → ℕ → ℕ → Type 0)
     (P : Bool → Bool → Type 0) (got : List Change) (a c r : ℕ) (q : Bool) (ms : List Notice) → live_adds held got ≡ []
     → ((k : CommitmentSigned) → IsDue w got a c k → ⊥) → ((k : RevokeAndAck) → IsNext w c r k → ⊥)
-    → Reads w own held all Q got a c r ms → ReadsMarks t P q true ms → IsStill ms
+    → Reads w own held all Q got a c r ms → ReadsReadiness t P q true ms → IsStill ms
 still_by w t own held all Q P got a c r q [] le due next h k = tt
 still_by w t own held all Q P got a c r q (Update u ∷ ms) le due next h k =
     no_removal w.opening w.role got (take a own) held u le (allowed_own (opens u) true k.2 refl) h.0
@@ -154,19 +155,20 @@ held_none x b = subst (λ us. live_adds us x.got ≡ [])
 
 pub still : (ly : ConnectionState) (x y : Side) (ns ms : List Notice) → Flows Connected ly x y ns
     → Flows ly Connected y x ms
-    → MarksFlow ly Connected y x ms → Ending x y → Ending y x → HasBegun x → IsStill ms
+    → ReadinessFlow ly Connected y x ms → Ending x y → Ending y x → HasBegun x → IsStill ms
 still Down x y ns ms f g t d e b =
-    still_by (sender y) (marks_of y x) x.own (holds x) x.signed.own Anywhere AnyMarks x.got x.acked.own x.number
+    still_by (sender y) (readiness_of y x) x.own (holds x) x.signed.own Anywhere AnyReadiness x.got x.acked.own x.number
     x.revocations x.peer_ready ms (held_none x b) (not_due Connected Down x y ms g e b)
     (not_next Connected Down x y ns f d b) g.flight
-    (subst (λ s. ReadsMarks (marks_of y x) AnyMarks x.peer_ready s ms) b.shut_taken t.flight)
+    (subst (λ s. ReadsReadiness (readiness_of y x) AnyReadiness x.peer_ready s ms) b.shut_taken t.flight)
 still AwaitingReestablish x y ns ms f g t d e b = subst IsStill (sym g.flight.0) tt
 still Connected x y ns ms f g t d e b =
-    still_by (sender y) (marks_of y x) x.own (holds x) x.signed.own
-    (LacksNothing y.own y.current.peer y.signatures y.number) (AllMarks y.ready y.shut x.closed) x.got x.acked.own
+    still_by (sender y) (readiness_of y x) x.own (holds x) x.signed.own
+    (LacksNothing y.own y.current.peer y.signatures y.number) (AllReadiness y.ready y.shut x.closed) x.got x.acked.own
     x.number x.revocations x.peer_ready ms (held_none x b) (not_due Connected Connected x y ms g e b)
     (not_next Connected Connected x y ns f d b) g.flight
-    (subst (λ s. ReadsMarks (marks_of y x) (AllMarks y.ready y.shut x.closed) x.peer_ready s ms) b.shut_taken t.flight)
+    (subst (λ s. ReadsReadiness (readiness_of y x) (AllReadiness y.ready y.shut x.closed) x.peer_ready s ms)
+    b.shut_taken t.flight)
 
 -- an end that has begun can't propose
 pub no_proposal : (x : Side) (u : Change) → HasBegun x

@@ -46,7 +46,8 @@ use Rattle.ln_channel_laws.proofs.Closing.ClosingInFlight.{SignsAll, Closer, clo
 use Rattle.ln_channel_laws.proofs.Closing.ClosingInFlight.{closes-unsent, one_less}
 use Rattle.ln_channel_laws.proofs.Closing.ClosingInFlight.{dealt_closes, ClosesFlow}
 use Rattle.ln_channel_laws.proofs.Flight.WalkOverActs.{kept_close, kept_skipped, kept_dealt}
-use Rattle.ln_channel_laws.proofs.Marks.MarksOverActs.{IsStill, marks_close, marks_skipped, marks_dealt}
+use Rattle.ln_channel_laws.proofs.Readiness.ReadinessOverActs.{IsStill, readiness_close, readiness_skipped}
+use Rattle.ln_channel_laws.proofs.Readiness.ReadinessOverActs.{readiness_dealt}
 use Rattle.ln_channel_laws.proofs.Flight.Sides.{Close, closes_of, dealt, has_bid}
 use Rattle.ln_channel_laws.proofs.Flight.Sides.{Both, Notice, Update, Sign, Revoke, Ready, Shutdown, Side, posts, opens}
 use Rattle.ln_channel_laws.proofs.Flight.Sides.{received}
@@ -56,19 +57,22 @@ use Rattle.ln_channel_laws.proofs.Flight.Walk.{Anywhere}
 use Rattle.ln_channel_laws.proofs.Flight.Walk.{Carries}
 use Rattle.ln_channel_laws.proofs.Flight.Walk.{BothFlow}
 use Rattle.ln_channel_laws.proofs.Flight.Reading.{reads-to}
-use Rattle.ln_channel_laws.proofs.Marks.MarksInFlight.{IsAllowed, ReadsMarks, AllMarks, AnyMarks, marks_of}
-use Rattle.ln_channel_laws.proofs.Marks.MarksInFlight.{CarriesMarks}
-use Rattle.ln_channel_laws.proofs.Marks.MarksInFlight.{BothMarks}
+use Rattle.ln_channel_laws.proofs.Readiness.ReadinessInFlight.{IsAllowed, ReadsReadiness, AllReadiness}
+use Rattle.ln_channel_laws.proofs.Readiness.ReadinessInFlight.{AnyReadiness, readiness_of}
+use Rattle.ln_channel_laws.proofs.Readiness.ReadinessInFlight.{CarriesReadiness}
+use Rattle.ln_channel_laws.proofs.Readiness.ReadinessInFlight.{BothReadiness}
 use Rattle.ln_channel_laws.proofs.Flight.WalkOverActs.{revoked_for, carries_first, kept_proposed, kept_signed}
 use Rattle.ln_channel_laws.proofs.Flight.WalkOverActs.{kept_update}
 use Rattle.ln_channel_laws.proofs.Flight.WalkOverActs.{kept_sign}
 use Rattle.ln_channel_laws.proofs.Flight.WalkOverActs.{kept_revoke, kept_ready, kept_shutdown, kept_confirmed}
 use Rattle.ln_channel_laws.proofs.Flight.WalkOverActs.{kept_shut}
-use Rattle.ln_channel_laws.proofs.Marks.MarksOverActs.{marks-any, marks_proposed, marks_signed, marks_update}
-use Rattle.ln_channel_laws.proofs.Marks.MarksOverActs.{marks_sign}
-use Rattle.ln_channel_laws.proofs.Marks.MarksOverActs.{marks_revoke}
-use Rattle.ln_channel_laws.proofs.Marks.MarksOverActs.{marks_ready, marks_shutdown, marks_confirmed, marks_shut}
-use Rattle.ln_channel_laws.proofs.Marks.MarksOverActs.{allowed_own}
+use Rattle.ln_channel_laws.proofs.Readiness.ReadinessOverActs.{readiness-any, readiness_proposed}
+use Rattle.ln_channel_laws.proofs.Readiness.ReadinessOverActs.{readiness_signed, readiness_update}
+use Rattle.ln_channel_laws.proofs.Readiness.ReadinessOverActs.{readiness_sign}
+use Rattle.ln_channel_laws.proofs.Readiness.ReadinessOverActs.{readiness_revoke}
+use Rattle.ln_channel_laws.proofs.Readiness.ReadinessOverActs.{readiness_ready, readiness_shutdown}
+use Rattle.ln_channel_laws.proofs.Readiness.ReadinessOverActs.{readiness_confirmed, readiness_shut}
+use Rattle.ln_channel_laws.proofs.Readiness.ReadinessOverActs.{allowed_own}
 use Rattle.ln_channel_laws.proofs.Flight.Images.{side_of, length-sent, proposes_so, takes_so, signs_so, accepts_so}
 use Rattle.ln_channel_laws.proofs.Flight.DueRows.{proposal_fits, IsTold, revoked_so, next_told}
 
@@ -133,7 +137,7 @@ both lx ly x y to_x to_y = record { x_link = lx; y_link = ly; x = x; y = y; to_x
 pub record Hold (a b : Signer) (channel : List ℕ) (lx ly : ConnectionState) (x y : End) (to_x to_y : List Notice)
     (said_x said_y : List Message) : Type 0 where
   pub kept : BothFlow (both lx ly (side_of a x) (side_of b y) to_x to_y)
-  pub told : BothMarks (both lx ly (side_of a x) (side_of b y) to_x to_y)
+  pub told : BothReadiness (both lx ly (side_of a x) (side_of b y) to_x to_y)
   pub ended : Ending (side_of a x) (side_of b y)
   pub ended_back : Ending (side_of b y) (side_of a x)
   pub closes : ClosesFlow a x.closing.fees (side_of a x) (side_of b y) to_y
@@ -297,11 +301,12 @@ front_reads Connected x y n ns h = reads-to (sender y) x.own (holds x) x.signed.
     (LacksNothing y.own y.current.peer y.signatures y.number) Anywhere x.got x.acked.own x.number x.revocations
     (n ∷ ns) (λ g b d s l. tt) h
 
-pub front_told : (ly : ConnectionState) (x y : Side) (n : Notice) (ns : List Notice) → CarriesMarks ly y x (n ∷ ns)
-    → ReadsMarks (marks_of y x) AnyMarks x.peer_ready x.peer_shut (n ∷ ns)
+pub front_told : (ly : ConnectionState) (x y : Side) (n : Notice) (ns : List Notice) → CarriesReadiness ly y x (n ∷ ns)
+    → ReadsReadiness (readiness_of y x) AnyReadiness x.peer_ready x.peer_shut (n ∷ ns)
 front_told Down x y n ns h = h
 front_told AwaitingReestablish x y n ns h = absurd (cc)
-front_told Connected x y n ns h = marks-any (marks_of y x) (AllMarks y.ready y.shut x.closed) x.peer_ready x.peer_shut
+front_told Connected x y n ns h = readiness-any (readiness_of y x) (AllReadiness y.ready y.shut x.closed) x.peer_ready
+    x.peer_shut
     (n ∷ ns) h
 
 unsigned : (q s : Bool) → cond q (cond s (Some refusal.NothingToSign) None) (Some refusal.SignatureOutstanding) ≡ None
@@ -324,13 +329,13 @@ module _ (a b : Signer) (keys : ArePartners a b) (channel : List ℕ) (ly : Conn
       → n.closing.fees ≡ x.closing.fees → ClosesFlow a x.closing.fees side (side_of b y) sent
       → ClosesFlow b y.closing.fees (side_of b y) side rest → SignsAll a x.closing.fees side.close_message
       → BothFlow (both Connected ly side (side_of b y) rest sent)
-      → BothMarks (both Connected ly side (side_of b y) rest sent)
+      → BothReadiness (both Connected ly side (side_of b y) rest sent)
       → Ending side (side_of b y) → Ending (side_of b y) side
       → n.dance.channel ≡ x.dance.channel → Knows b n y → Knows a y n → Said n.closing.shut said
       → Hold a b channel Connected ly n y rest sent said said_y
   moved n side to_x to_y rest sent said e h fs cl clb sg k t d db c kn kp s = record {
     kept = subst (λ z. BothFlow (both Connected ly z (side_of b y) rest sent)) (sym e) k;
-    told = subst (λ z. BothMarks (both Connected ly z (side_of b y) rest sent)) (sym e) t;
+    told = subst (λ z. BothReadiness (both Connected ly z (side_of b y) rest sent)) (sym e) t;
     ended = subst (λ z. Ending z (side_of b y)) (sym e) d;
     ended_back = subst (λ z. Ending (side_of b y) z) (sym e) db;
     closes = subst (λ f. ClosesFlow a f (side_of a n) (side_of b y) sent) (sym fs)
@@ -411,7 +416,7 @@ module _ (a b : Signer) (keys : ArePartners a b) (channel : List ℕ) (ly : Conn
       refl h.closes (one_less b y.closing.fees (closer y_side) x_side.revocations x_side.peer_shut x_side.got u ns
       h.closes_back) h.x_signs
       (kept_update ly (side_of a x) (side_of b y) u ns to_y h.kept)
-      (marks_update ly (side_of a x) (side_of b y) u ns to_y h.told)
+      (readiness_update ly (side_of a x) (side_of b y) u ns to_y h.told)
       (unmoved (received u x_side) none h.ended.news refl refl h.ended)
       (back_same (received u x_side) refl h.ended_back)
       refl
@@ -447,7 +452,7 @@ module _ (a b : Signer) (keys : ArePartners a b) (channel : List ℕ) (ly : Conn
       refl (moved_due (closer (accepted_all z (reestablish_message a (accepts x).dance) x_side)) (Revoke z ∷ []) to_y tt
       (not_bid none h.ended (has_bid x_side) refl) h.closes) h.closes_back h.x_signs
       (kept_sign ly z (reestablish_message a (accepts x).dance) x_side y_side m ns to_y h.kept)
-      (marks_sign ly z (reestablish_message a (accepts x).dance) x_side y_side m ns to_y h.told)
+      (readiness_sign ly z (reestablish_message a (accepts x).dance) x_side y_side m ns to_y h.told)
       (unmoved (accepted_all z (reestablish_message a (accepts x).dance) x_side) none h.ended.news refl refl h.ended)
       (back_same (accepted_all z (reestablish_message a (accepts x).dance) x_side) refl h.ended_back)
       refl
@@ -494,7 +499,7 @@ module _ (a b : Signer) (keys : ArePartners a b) (channel : List ℕ) (ly : Conn
       to_y ns to_y said_x refl h
       refl h.closes h.closes_back h.x_signs
       (kept_revoke ly z (reestablish_message a (revokes m x).dance) x_side y_side m ns to_y h.kept)
-      (marks_revoke ly z (reestablish_message a (revokes m x).dance) x_side y_side m ns to_y
+      (readiness_revoke ly z (reestablish_message a (revokes m x).dance) x_side y_side m ns to_y
       h.kept.there.within.own_acked h.told)
       (unmoved (acknowledged_all z (reestablish_message a (revokes m x).dance) x_side) none
       (λ e f g. absurd (omega (arith, e, one))) refl refl h.ended)
@@ -547,7 +552,7 @@ module _ (a b : Signer) (keys : ArePartners a b) (channel : List ℕ) (ly : Conn
       (kept_ready ly m (signature_again a n.dance) x_side y_side ns to_y
       (λ os k. carries_first (signature_again a n.dance) x_side y_side os
       (none_signed x.dance.numbers.signed y_side.number none) k) h.kept)
-      (marks_ready ly m (signature_again a n.dance) x_side y_side ns to_y h.told)
+      (readiness_ready ly m (signature_again a n.dance) x_side y_side ns to_y h.told)
       (record { news = h.ended.news; begun = h.ended.begun; closed = h.ended.closed; answered = h.ended.answered })
       (record {
         news = h.ended_back.news;
@@ -581,7 +586,7 @@ module _ (a b : Signer) (keys : ArePartners a b) (channel : List ℕ) (ly : Conn
       h.told.back h.ended h.ended_back (h.ended.closed is) in
       record {
         kept = kept_skipped ly m x_side y_side ns to_y h.kept;
-        told = marks_skipped ly m x_side y_side ns to_y is nothing h.told;
+        told = readiness_skipped ly m x_side y_side ns to_y is nothing h.told;
         ended = h.ended;
         ended_back = h.ended_back;
         closes = h.closes;
@@ -635,7 +640,7 @@ module _ (a b : Signer) (keys : ArePartners a b) (channel : List ℕ) (ly : Conn
       (ap (λ r. record x_side { peer_ready = r }) e) h
       refl h.closes h.closes_back h.x_signs
       (kept_ready ly m x_side.signature x_side y_side ns to_y (λ os k. k) h.kept)
-      (marks_ready ly m x_side.signature x_side y_side ns to_y h.told)
+      (readiness_ready ly m x_side.signature x_side y_side ns to_y h.told)
       (record { news = h.ended.news; begun = h.ended.begun; closed = h.ended.closed; answered = h.ended.answered })
       (record {
         news = h.ended_back.news;
@@ -683,7 +688,7 @@ module _ (a b : Signer) (keys : ArePartners a b) (channel : List ℕ) (ly : Conn
       (ap (λ r. record x_side { peer_shut = r }) e) h
       refl h.closes h.closes_back h.x_signs
       (kept_shutdown ly m x_side y_side ns to_y h.kept)
-      (marks_shutdown ly m x_side y_side ns to_y h.told)
+      (readiness_shutdown ly m x_side y_side ns to_y h.told)
       (shut_ended h.ended) (record {
         news = h.ended_back.news;
         begun = h.ended_back.begun;
@@ -700,7 +705,7 @@ module _ (a b : Signer) (keys : ArePartners a b) (channel : List ℕ) (ly : Conn
       moved (shuts_by_peer m x) (record x_side { peer_shut = true }) (Shutdown m ∷ ns) to_y ns to_y said_x refl h
       refl h.closes h.closes_back h.x_signs
       (kept_shutdown ly m x_side y_side ns to_y h.kept)
-      (marks_shutdown ly m x_side y_side ns to_y h.told)
+      (readiness_shutdown ly m x_side y_side ns to_y h.told)
       (shut_ended h.ended) (record {
         news = h.ended_back.news;
         begun = h.ended_back.begun;
@@ -735,7 +740,7 @@ module _ (a b : Signer) (keys : ArePartners a b) (channel : List ℕ) (ly : Conn
       (said_x ++ message.ChannelReady (ready_message a x) ∷ []) refl h
       refl (posted_due (Ready (ready_message a x) ∷ []) to_y tt h.closes) h.closes_back h.x_signs
       (kept_confirmed ly x_side y_side to_x to_y h.kept)
-      (marks_confirmed ly x_side y_side to_x to_y h.told)
+      (readiness_confirmed ly x_side y_side to_x to_y h.told)
       (record { news = h.ended.news; begun = h.ended.begun; closed = h.ended.closed; answered = h.ended.answered })
       (record {
         news = h.ended_back.news;
@@ -779,7 +784,7 @@ module _ (a b : Signer) (keys : ArePartners a b) (channel : List ℕ) (ly : Conn
       (omega (arith, w.own_signed, length-sent x.dance.log.own))) h
       refl (posted_due (Update (as_sent u) ∷ []) to_y tt h.closes) h.closes_back h.x_signs
       (kept_proposed ly x_side y_side (as_sent u) to_x to_y fits h.kept)
-      (marks_proposed ly x_side y_side (as_sent u) to_x to_y (not_closed nobegun h.ended y_side.closed refl)
+      (readiness_proposed ly x_side y_side (as_sent u) to_x to_y (not_closed nobegun h.ended y_side.closed refl)
       (omega (arith, w.own_acked, w.own_signed))
       (record { sent = ready.0; taken = ready.1 }) (still_open x u r.1) h.told)
       (unmoved (proposed (as_sent u) x_side) nobegun h.ended.news refl refl h.ended)
@@ -835,7 +840,7 @@ module _ (a b : Signer) (keys : ArePartners a b) (channel : List ℕ) (ly : Conn
       refl (moved_due (closer (signed_all z x_side)) (Sign z ∷ []) to_y tt
       (not_bid nobegun h.ended (has_bid x_side) refl) h.closes) h.closes_back h.x_signs
       (kept_signed ly z x_side y_side to_x to_y equal h.kept)
-      (marks_signed ly z x_side y_side to_x to_y (not_closed nobegun h.ended y_side.closed refl)
+      (readiness_signed ly z x_side y_side to_x to_y (not_closed nobegun h.ended y_side.closed refl)
       (record { sent = ready.0; taken = ready.1 }) h.told)
       (unmoved (signed_all z x_side) nobegun (λ e f g. new (sym acked_own ∙ f) (sym acked_peer ∙ g)) refl refl h.ended)
       (back_same (signed_all z x_side) refl h.ended_back)
@@ -893,7 +898,7 @@ module _ (a b : Signer) (keys : ArePartners a b) (channel : List ℕ) (ly : Conn
       (said_x ++ message.Shutdown z ∷ []) is h
       fs (posted_due (Shutdown z ∷ []) to_y tt h.closes) h.closes_back h.x_signs
       (kept_shut ly z x_side y_side to_x to_y h.kept)
-      (marks_shut ly z x_side y_side to_x to_y unshut
+      (readiness_shut ly z x_side y_side to_x to_y unshut
       (eqb-true x.dance.log.acknowledged.own (length x.dance.log.own) all
       ∙ sym (length-sent x.dance.log.own)) h.told)
       (own_shut h.ended) (record {
@@ -971,7 +976,7 @@ module _ (a b : Signer) (keys : ArePartners a b) (channel : List ℕ) (ly : Conn
       fs (dealt_closes a x.closing.fees ly x_side y_side m c sent to_y begun h.kept.there.within h.kept.there.flight
       h.told.there.flight bd st sig h.closes) h.closes_back sg
       (kept_dealt ly m c sent x_side y_side to_x to_y h.kept)
-      (marks_dealt ly m c sent x_side y_side to_x to_y cl bd st h.told)
+      (readiness_dealt ly m c sent x_side y_side to_x to_y cl bd st h.told)
       (record { news = h.ended.news; begun = λ q. begun; closed = λ q. begun; answered = λ q. bd (h.ended.answered q) })
       (record { news = h.ended_back.news; begun = h.ended_back.begun; closed = h.ended_back.closed; answered = an })
       same kn kp (subst (λ s. Said s (said_x ++ out)) (sym shut) said)
@@ -982,7 +987,7 @@ module _ (a b : Signer) (keys : ArePartners a b) (channel : List ℕ) (ly : Conn
       → Hold a b channel Connected ly x y ns to_y said_x said_y
   passed_close m ns to_y h = record {
     kept = kept_close ly m x_side y_side ns to_y h.kept;
-    told = marks_close ly m x_side y_side ns to_y h.told;
+    told = readiness_close ly m x_side y_side ns to_y h.told;
     ended = h.ended;
     ended_back = h.ended_back;
     closes = h.closes;

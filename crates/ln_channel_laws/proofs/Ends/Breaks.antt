@@ -16,12 +16,12 @@ use Rattle.ln_channel_laws.specs.Ends.{messages_in}
 use Rattle.ln_channel_laws.proofs.Tests.{unless_none}
 use Rattle.ln_channel_laws.proofs.Flight.Sides.{Notice, Again, posts, all_owed}
 use Rattle.ln_channel_laws.proofs.Flight.Walk.{Phase, Idle, Sent, Answered, BothFlow}
-use Rattle.ln_channel_laws.proofs.Marks.MarksInFlight.{BothMarks}
+use Rattle.ln_channel_laws.proofs.Readiness.ReadinessInFlight.{BothReadiness}
 use Rattle.ln_channel_laws.proofs.Closing.NothingMoves.{Ending, none_owed, begun_dropped}
 use Rattle.ln_channel_laws.proofs.Closing.ClosingInFlight.{again_closes}
 use Rattle.ln_channel_laws.proofs.Flight.WalkOverBreaks.{kept_again, kept_down, kept_up}
-use Rattle.ln_channel_laws.proofs.Marks.MarksOverActs.{none-take}
-use Rattle.ln_channel_laws.proofs.Marks.MarksOverBreaks.{marks_again, marks_down, marks_up}
+use Rattle.ln_channel_laws.proofs.Readiness.ReadinessOverActs.{none-take}
+use Rattle.ln_channel_laws.proofs.Readiness.ReadinessOverBreaks.{readiness_again, readiness_down, readiness_up}
 use Rattle.ln_channel_laws.proofs.Flight.Images.{messages_of, side_of, dropped_so}
 use Rattle.ln_channel_laws.proofs.Ends.Acts.{Said, said_more, Knows, both, Hold}
 use Rattle.ln_channel_laws.proofs.Flight.SentAgain.{resends_so, said_again}
@@ -73,8 +73,8 @@ module _ (a b : Signer) (channel : List ℕ) (ly : ConnectionState) (x y : End) 
 
   again_told : (m : ChannelReestablish) (ns : List Notice)
       → Hold a b channel AwaitingReestablish ly x y (Again m ∷ ns) to_y said_x said_y
-      → BothMarks (both Connected ly (side_of a x) (side_of b y) ns (posts ly (lacked m) to_y))
-  again_told m ns h = marks_again ly (side_of a x) (side_of b y) m ns to_y
+      → BothReadiness (both Connected ly (side_of a x) (side_of b y) ns (posts ly (lacked m) to_y))
+  again_told m ns h = readiness_again ly (side_of a x) (side_of b y) m ns to_y
       (none_owed AwaitingReestablish ly (side_of a x) (side_of b y) to_y h.kept.there h.ended) refl refl h.kept h.told
 
   pub took_again : (m : ChannelReestablish) (ns : List Notice)
@@ -115,8 +115,8 @@ lost_so a b channel lx ly x y to_x to_y said_x said_y h =
     record {
       kept = subst (λ z. BothFlow (both Down ly z (side_of b y) [] to_y)) (sym is)
           (kept_down (both lx ly (side_of a x) (side_of b y) to_x to_y) h.kept);
-      told = subst (λ z. BothMarks (both Down ly z (side_of b y) [] to_y)) (sym is)
-          (marks_down (both lx ly (side_of a x) (side_of b y) to_x to_y) w.own_signed h.told);
+      told = subst (λ z. BothReadiness (both Down ly z (side_of b y) [] to_y)) (sym is)
+          (readiness_down (both lx ly (side_of a x) (side_of b y) to_x to_y) w.own_signed h.told);
       ended = subst (λ z. Ending z (side_of b y)) (sym is)
           (record {
             news = h.ended.news;
@@ -168,7 +168,7 @@ joined_so a b channel x y to_x to_y said_x said_y h =
     (subst (λ ms. BothFlow (both Down Down (side_of a x) (side_of b y) to_x ms)) h.kept.there.flight h.kept) in
     record {
       kept = kept_up (side_of a x) (side_of b y) empty;
-      told = marks_up (side_of a x) (side_of b y) to_x to_y h.told;
+      told = readiness_up (side_of a x) (side_of b y) to_x to_y h.told;
       ended = h.ended;
       ended_back = h.ended_back;
       closes = tt;

@@ -12,9 +12,10 @@ use Rattle.ln_close.specs.declared.closing.Fees.{Fees}
 use Rattle.ln_channel_laws.specs.Ends.{still_come}
 use Rattle.ln_channel_laws.proofs.Flight.Sides.{Side, Notice, Update, Sign, Revoke, Ready, Shutdown, Close, Again}
 use Rattle.ln_channel_laws.proofs.Flight.Walk.{sender, holds, Anywhere, Carries, InFlight}
-use Rattle.ln_channel_laws.proofs.Marks.MarksInFlight.{AnyMarks, marks_of, CarriesMarks, MarksFlight}
+use Rattle.ln_channel_laws.proofs.Readiness.ReadinessInFlight.{AnyReadiness, readiness_of, CarriesReadiness}
+use Rattle.ln_channel_laws.proofs.Readiness.ReadinessInFlight.{ReadinessFlight}
 use Rattle.ln_channel_laws.proofs.Flight.Reading.{reads-front}
-use Rattle.ln_channel_laws.proofs.Marks.MarksOverActs.{marks-front}
+use Rattle.ln_channel_laws.proofs.Readiness.ReadinessOverActs.{readiness-front}
 use Rattle.ln_channel_laws.proofs.Closing.ClosingInFlight.{closer, closes-front, ClosesFlow}
 use Rattle.ln_channel_laws.proofs.Flight.Images.{message_of, messages_of, side_of}
 use Rattle.ln_channel_laws.proofs.Ends.Acts.{Hold}
@@ -58,12 +59,12 @@ module _ (n : ℕ) (x y : Side) where
   flight_front AwaitingReestablish (Again m ∷ ms) h = (h.0, carries_front ms h.1)
   flight_front Connected ms h = carries_front ms h
 
-  speaks_front : (ms : List Notice) → CarriesMarks Down x y ms → CarriesMarks Down x y (take n ms)
-  speaks_front ms h = marks-front (marks_of x y) AnyMarks y.peer_ready y.peer_shut (take n ms) (drop n ms)
-      (subst (CarriesMarks Down x y) (sym (take-append-drop n ms)) h)
+  speaks_front : (ms : List Notice) → CarriesReadiness Down x y ms → CarriesReadiness Down x y (take n ms)
+  speaks_front ms h = readiness-front (readiness_of x y) AnyReadiness y.peer_ready y.peer_shut (take n ms) (drop n ms)
+      (subst (CarriesReadiness Down x y) (sym (take-append-drop n ms)) h)
 
-  speech_front : (l : ConnectionState) (ms : List Notice) → MarksFlight Down l x y ms
-      → MarksFlight Down l x y (still_come n l ms)
+  speech_front : (l : ConnectionState) (ms : List Notice) → ReadinessFlight Down l x y ms
+      → ReadinessFlight Down l x y (still_come n l ms)
   speech_front Down ms h = h
   speech_front AwaitingReestablish [] h = absurd h
   speech_front AwaitingReestablish (Update u ∷ ms) h = absurd h

@@ -24,7 +24,7 @@ use Rattle.ln_channel.specs.declared.machine.ConnectionState.TheVariants.{Connec
 use Rattle.ln_channel_laws.proofs.Tests.{was_given}
 use Rattle.ln_channel_laws.proofs.Flight.Walk.{Idle, Flows}
 use Rattle.ln_channel_laws.proofs.Closing.NothingMoves.{Ending}
-use Rattle.ln_channel_laws.proofs.Marks.MarksInFlight.{MarksFlow}
+use Rattle.ln_channel_laws.proofs.Readiness.ReadinessInFlight.{ReadinessFlow}
 use Rattle.ln_channel_laws.proofs.Flight.Images.{side_of}
 use Rattle.ln_channel_laws.proofs.Ends.Acts.{Said, Knows}
 use Rattle.ln_channel_laws.proofs.Ends.Runs.{Sound}
@@ -55,7 +55,7 @@ flows k j r q c d f g t u eo er = record {
 }
 
 told : (k j : Signer) (r q : Role) (c d : List ℕ) (f g : Fees) (t u : Terms)
-    → MarksFlow Connected Connected (side_of k (first r c f t)) (side_of j (first q d g u)) []
+    → ReadinessFlow Connected Connected (side_of k (first r c f t)) (side_of j (first q d g u)) []
 told k j r q c d f g t u = record {
   ready_sent = λ e. e;
   shut_sent = λ e. e;

@@ -20,14 +20,14 @@ use Rattle.ln_channel.specs.End.{End, completed}
 use Rattle.ln_channel_laws.specs.Ends.{Ends, Step, opened, turned, run}
 use Rattle.ln_keys.specs.Partners.{ArePartners}
 use Rattle.ln_channel_laws.specs.Promises.{AreSent, party, Headline, TakesFront, NoneRefused, HoldsAll, Agrees}
-use Rattle.ln_channel_laws.specs.Promises.{NoneAddsLate, HasTakenMarks, MarksAgree}
+use Rattle.ln_channel_laws.specs.Promises.{NoneAddsLate, HasTakenReadiness, ReadinessAgrees}
 use Rattle.ln_channel.specs.declared.machine.ConnectionState.{ConnectionState}
 use Rattle.ln_channel.specs.declared.machine.ConnectionState.TheVariants.{Connected}
 use Rattle.ln_channel.specs.Resume.{resumed}
 use Rattle.ln_channel_laws.proofs.Tests.{parts}
 use Rattle.ln_channel_laws.proofs.Flight.Sides.{Notice}
 use Rattle.ln_channel_laws.proofs.Flight.Walk.{LacksNothing, Flows}
-use Rattle.ln_channel_laws.proofs.Marks.MarksInFlight.{MarksFlight, MarksFlow}
+use Rattle.ln_channel_laws.proofs.Readiness.ReadinessInFlight.{ReadinessFlight, ReadinessFlow}
 use Rattle.ln_log.specs.Log.{covered, view_for}
 use Rattle.ln_log.proofs.Sent.{turned_views}
 use Rattle.ln_channel_laws.specs.Promises.{balances}
@@ -241,28 +241,28 @@ agrees a b s c funder fundee steps keys o rest =
 
 -- ---- what was sent beside updates, where nothing is in flight
 
-taken_marks : (a b : Signer) (x y : End) (lx ly : ConnectionState) (ms : List Notice) → lx ≡ Connected
+taken_readiness : (a b : Signer) (x y : End) (lx ly : ConnectionState) (ms : List Notice) → lx ≡ Connected
     → ly ≡ Connected → ms ≡ []
-    → MarksFlow lx ly (side_of a x) (side_of b y) ms → HasTakenMarks x y
-taken_marks a b x y lx ly ms ex ey none t =
-    let one : MarksFlight Connected ly (side_of a x) (side_of b y) ms =
-    subst (λ l. MarksFlight l ly (side_of a x) (side_of b y) ms) ex t.flight in
-    let both : MarksFlight Connected Connected (side_of a x) (side_of b y) ms =
-    subst (λ l. MarksFlight Connected l (side_of a x) (side_of b y) ms) ey one in
-    let last : MarksFlight Connected Connected (side_of a x) (side_of b y) [] =
-    subst (λ ns. MarksFlight Connected Connected (side_of a x) (side_of b y) ns) none both in
+    → ReadinessFlow lx ly (side_of a x) (side_of b y) ms → HasTakenReadiness x y
+taken_readiness a b x y lx ly ms ex ey none t =
+    let one : ReadinessFlight Connected ly (side_of a x) (side_of b y) ms =
+    subst (λ l. ReadinessFlight l ly (side_of a x) (side_of b y) ms) ex t.flight in
+    let both : ReadinessFlight Connected Connected (side_of a x) (side_of b y) ms =
+    subst (λ l. ReadinessFlight Connected l (side_of a x) (side_of b y) ms) ey one in
+    let last : ReadinessFlight Connected Connected (side_of a x) (side_of b y) [] =
+    subst (λ ns. ReadinessFlight Connected Connected (side_of a x) (side_of b y) ns) none both in
     record { shutdown = last.1; ready = λ e. last.0 (ap is_some e) }
 
-pub marks_agree : (a b : Signer) (s : OpenSpec) (c : Config) (funder fundee : Opened) (steps : List Step)
+pub readiness_agrees : (a b : Signer) (s : OpenSpec) (c : Config) (funder fundee : Opened) (steps : List Step)
     → ArePartners a b
-    → Opens a b s c funder fundee → MarksAgree (run a b steps (opened funder fundee))
-marks_agree a b s c funder fundee steps keys o quiet =
+    → Opens a b s c funder fundee → ReadinessAgrees (run a b steps (opened funder fundee))
+readiness_agrees a b s c funder fundee steps keys o quiet =
     let p = run a b steps (opened funder fundee) in
     let h = at_end a b s c funder fundee steps keys o in
     let nx = nothing_in h.channel h.to_x (sym h.in_x ∙ quiet.to_x) in
     let ny = nothing_in h.channel h.to_y (sym h.in_y ∙ quiet.to_y) in (
-      taken_marks a b p.x p.y p.x_line p.y_line h.to_y quiet.x_met quiet.y_met ny h.hold.told.there,
-      taken_marks b a p.y p.x p.y_line p.x_line h.to_x quiet.y_met quiet.x_met nx h.hold.told.back,
+      taken_readiness a b p.x p.y p.x_line p.y_line h.to_y quiet.x_met quiet.y_met ny h.hold.told.there,
+      taken_readiness b a p.y p.x p.y_line p.x_line h.to_x quiet.y_met quiet.x_met nx h.hold.told.back,
     )
 
 -- ---- no add behind the own shutdown

@@ -49,7 +49,7 @@ use Rattle.ln_close.specs.Closing.{answer_to}
 use Rattle.ln_channel.specs.End.{closing_message}
 use Rattle.ln_channel.specs.Taking.{answering, answered, answered_end, range_in}
 use Rattle.ln_channel_laws.proofs.Closing.NothingMoves.{HasBegun}
-use Rattle.ln_channel_laws.proofs.Marks.MarksOverActs.{closing_sent}
+use Rattle.ln_channel_laws.proofs.Readiness.ReadinessOverActs.{closing_sent}
 use Rattle.ln_channel_laws.proofs.Fees.FairAnswers.{AnswersWithin, IsFair, fair}
 use Rattle.ln_channel_laws.proofs.Flight.Images.{side_of}
 use Rattle.ln_channel_laws.proofs.Ends.Acts.{Said, said_more, dealt_so, passed_close}

@@ -32,7 +32,7 @@ use Rattle.ln_channel.specs.Taking.{signature_row, accepting, accepts, learning,
 use Rattle.ln_channel_laws.proofs.Tests.{first_none, no_fault, unless_none}
 use Rattle.ln_channel_laws.proofs.Flight.Sides.{opens}
 use Rattle.ln_channel_laws.proofs.Flight.Walk.{FitsBehind}
-use Rattle.ln_channel_laws.proofs.Marks.MarksInFlight.{IsAllowed}
+use Rattle.ln_channel_laws.proofs.Readiness.ReadinessInFlight.{IsAllowed}
 use Rattle.ln_channel_laws.proofs.Flight.Images.{length-sent, take-sent, sent-twice}
 
 -- ---- an update

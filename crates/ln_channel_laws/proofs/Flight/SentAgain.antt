@@ -34,7 +34,7 @@ use Rattle.ln_channel_laws.proofs.Flight.Sides.{Notice, Sign, Revoke, Ready, Shu
 use Rattle.ln_channel_laws.proofs.Flight.Sides.{again_signed}
 use Rattle.ln_channel_laws.proofs.Flight.Sides.{signature_owed, revocation_owed, owed, ready_again, shutdown_again}
 use Rattle.ln_channel_laws.proofs.Flight.Sides.{all_owed}
-use Rattle.ln_channel_laws.proofs.Marks.MarksInFlight.{NoneOpens}
+use Rattle.ln_channel_laws.proofs.Readiness.ReadinessInFlight.{NoneOpens}
 use Rattle.ln_channel_laws.proofs.Flight.Images.{messages_of, messages-append, is_late, side_of, take-sent, drop-sent}
 use Rattle.ln_channel_laws.proofs.Ends.Acts.{sent_as, shut_in, shut-more, adds-more, Said}
 

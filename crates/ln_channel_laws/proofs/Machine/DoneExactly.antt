@@ -1,4 +1,4 @@
--- An end does what a command asks for exactly where its marks let it and the machine may make the move.
+-- An end does what a command asks for exactly where its readiness lets it and the machine may make the move.
 use Rattle.std.proofs.Common.{◌≡◌, ◌≢◌, ◌↔◌, ℕ, ◌+◌, ◌-◌, ◌^◌, ◌<◌, ◌≤◌, List, [], ◌∷◌, length, refl, sym, ap, ◌∙◌}
 use Rattle.std.proofs.Common.{subst, arith, Bool, true, false, cond, not, ◌||◌, ◌&&◌, ◌==◌, nat_lt, nat_le, Option}
 use Rattle.std.proofs.Common.{Some, None, Ok, Err}

@@ -58,7 +58,7 @@ use Rattle.ln_channel_laws.specs.Moves.{machine_of, moves_asked, moves_of_comman
 use Rattle.ln_channel_laws.specs.Moves.{moves_of_act, moves_of, all_moves, history, after_all}
 use Rattle.ln_channel_laws.proofs.Tests.{parts, was_none, was_given}
 use Rattle.ln_channel_laws.proofs.Flight.Sides.{Notice, Sign, Shutdown, Close, Again, has_bid}
-use Rattle.ln_channel_laws.proofs.Marks.MarksOverActs.{closing_sent}
+use Rattle.ln_channel_laws.proofs.Readiness.ReadinessOverActs.{closing_sent}
 use Rattle.ln_channel_laws.proofs.Flight.Images.{message_of, messages_of, side_of}
 use Rattle.ln_channel_laws.proofs.Ends.Acts.{Hold}
 use Rattle.ln_channel_laws.proofs.Ends.JustOpened.{opened_holds}

@@ -35,10 +35,10 @@ impl Model for Framer {
     ghost view = { λ f. record { held = f.held.items; fault = f.fault } };
 }
 
-/// What was heard of some bytes: the messages of the whole frames at their front, how many bytes these frames
-/// took, and the fault of the frame behind them.
+/// The messages of the whole frames at the front of some bytes, how many bytes these frames
+/// took, and the fault of the frame after them.
 #[derive(Drop)]
-struct Hearing {
+struct WholeFrames {
     messages: Vec<Incoming>,
     taken: usize,
     fault: Option<Fault>,
@@ -82,8 +82,8 @@ impl Framer {
         }
         let before = self.held.len();
         self.held.extend_from_slice(piece)?;
-        match hear(alloc, &self.held) {
-            Ok(hearing) => self.keep(hearing),
+        match read_whole_frames(alloc, &self.held) {
+            Ok(read) => self.keep(read),
             Err(fault) => {
                 self.held.truncate(before);
                 self.held.shrink_to(MOST_HELD);
@@ -93,19 +93,19 @@ impl Framer {
     }
 
     /// Keeps what is left behind the messages that were heard, and answers these.
-    fn keep(&mut self, hearing: Hearing) -> Result<Vec<Incoming>, Fault>
-        requires hears_the_front { HearsFront self.old.held (map heard hearing.messages.items)
-            hearing.taken hearing.fault }
+    fn keep(&mut self, read: WholeFrames) -> Result<Vec<Incoming>, Fault>
+        requires hears_the_front { HearsFront self.old.held (map heard read.messages.items)
+            read.taken read.fault }
         requires has_no_fault { self.old.fault ≡ None }
         ensures answers_what_was_heard { IfOk result (λ messages. HasHeard self.old.held (map heard messages.items)
             self.new × (map heard messages.items ≡ [] → self.new.fault ≡ None)) }
         ensures tells_the_fault { IfErr result (λ f. HasHeard self.old.held [] self.new × (self.new.fault ≡ Some f)) }
     {
-        let Hearing {
+        let WholeFrames {
             messages,
             taken,
             fault,
-        } = hearing;
+        } = read;
         let Some(fault) = fault else {
             drop_front(&mut self.held, taken);
             return Ok(messages);
@@ -134,8 +134,8 @@ fn drop_front(bytes: &mut Vec<u8>, count: usize)
     bytes.shrink_to(MOST_HELD);
 }
 
-/// Hears the whole frames at the front of the bytes, up to the first fault. The only error is 60.
-fn hear(alloc: Global, bytes: &[u8]) -> Result<Hearing, Fault>
+/// Reads the whole frames at the front of the bytes, up to the first fault. The only error is 60.
+fn read_whole_frames(alloc: Global, bytes: &[u8]) -> Result<WholeFrames, Fault>
     ensures hears_the_front { IfOk result (λ h. HearsFront bytes.now (map heard h.messages.items) h.taken h.fault) }
     ensures fails_for_memory_alone { IfErr result (λ f. f ≡ Fault.Memory) }
 {
@@ -146,7 +146,7 @@ fn hear(alloc: Global, bytes: &[u8]) -> Result<Hearing, Fault>
             Ok(incoming) => messages.push(incoming)?,
             Err(Fault::Memory) => return Err(Fault::Memory),
             Err(fault) => {
-                return Ok(Hearing {
+                return Ok(WholeFrames {
                     messages,
                     taken: bytes.len() - rest.len(),
                     fault: Some(fault),
@@ -155,7 +155,7 @@ fn hear(alloc: Global, bytes: &[u8]) -> Result<Hearing, Fault>
         }
         rest = after;
     }
-    Ok(Hearing {
+    Ok(WholeFrames {
         messages,
         taken: bytes.len() - rest.len(),
         fault: None,

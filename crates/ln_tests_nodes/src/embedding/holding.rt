@@ -169,7 +169,7 @@ fn expect<R: Wait>(rt: &R, payee: &ToyNode) -> Result<(), Refusal> {
 }
 
 /// What a node tells as held by its notices, behind others; and whether it has refused an order.
-fn hear<R: Wait>(
+fn receive<R: Wait>(
     rt: &R,
     alloc: Global,
     node: &ToyNode,
@@ -212,7 +212,7 @@ fn offer<R: Wait>(
             is_due = payee.order(rt, 0, Command::Sign).is_err();
         }
         thread::yield_now();
-        is_due = hear(rt, alloc, payee, told)? || is_due;
+        is_due = receive(rt, alloc, payee, told)? || is_due;
     }
     Ok(())
 }

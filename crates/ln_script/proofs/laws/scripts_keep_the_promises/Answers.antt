@@ -3,7 +3,7 @@ use Rattle.ln_keys.specs.declared.toy_keys.ToyKeys.{ToyKeys}
 use Rattle.ln_keys.specs.Toy.{toy_signer}
 use Rattle.ln_hooks.specs.declared.verdict.Verdict.{Verdict}
 use Rattle.ln_world_channels.specs.Promises.{Headline, NoneRefused, AllTaken, OneFee, Agrees}
-use Rattle.ln_world_channels.specs.Promises.{AnswersShutdown, MarksAgree, BothClose, DoExactly}
+use Rattle.ln_world_channels.specs.Promises.{AnswersShutdown, ReadinessAgrees, BothClose, DoExactly}
 use Rattle.ln_world_channels.specs.Longest.{BasesAreLongest}
 use Rattle.ln_world_channels.specs.Signing.{SignCovered}
 use Rattle.ln_world.specs.World.{World, empty, run}
@@ -47,8 +47,8 @@ returns-clause-a_shutdown_is_answered c = after_each (OfEach AnswersShutdown) c.
 pub returns-clause-agreement : goal.returns-clause-agreement
 returns-clause-agreement c = after_each (OfEach Agrees) c.agreement.ensures
 
-pub returns-clause-marks_agree_at_rest : goal.returns-clause-marks_agree_at_rest
-returns-clause-marks_agree_at_rest c = after_each (OfEach MarksAgree) c.marks_agree_at_rest.ensures
+pub returns-clause-readiness_agrees_at_rest : goal.returns-clause-readiness_agrees_at_rest
+returns-clause-readiness_agrees_at_rest c = after_each (OfEach ReadinessAgrees) c.readiness_agrees_at_rest.ensures
 
 pub returns-clause-closing_ends : goal.returns-clause-closing_ends
 returns-clause-closing_ends c = after_each (OfEach BothClose) c.closing_ends.ensures
@@ -73,9 +73,9 @@ pub returns-clause-each_move_may_be_made : goal.returns-clause-each_move_may_be_
 returns-clause-each_move_may_be_made c text steps a hooks number read =
     c.each_move_may_be_made.ensures (said_by a hooks steps) hooks number
 
-pub returns-clause-events_are_told : goal.returns-clause-events_are_told
-returns-clause-events_are_told c text steps a hooks number side read =
-    c.events_are_told.ensures (said_by a hooks steps) hooks number side
+pub returns-clause-events_are_reported : goal.returns-clause-events_are_reported
+returns-clause-events_are_reported c text steps a hooks number side read =
+    c.events_are_reported.ensures (said_by a hooks steps) hooks number side
 
 pub returns-clause-undecided_events_are_the_machines : goal.returns-clause-undecided_events_are_the_machines
 returns-clause-undecided_events_are_the_machines c text steps a hooks number side read =

@@ -11,4 +11,4 @@ returns-in-None-clause-seated c =
 pub returns-in-Some-clause-seated : goal.returns-in-Some-clause-seated
 returns-in-Some-clause-seated c =
     on_ok c.slot.result (λ e. kept_moves c.args.end (registered c.args.hook) c.args.dispatchers.now c.in-Some.i
-    _ c.slot.new.self (sym c.in-Some.is ∙ c.index_of.ensures) e) c.slot.ensures.seated
+    _ c.slot.new.self (sym c.in-Some.is ∙ c.index_of.ensures) e) c.slot.ensures.slotted

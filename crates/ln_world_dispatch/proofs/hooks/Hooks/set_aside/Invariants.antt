@@ -1,6 +1,6 @@
 use Rattle.std.proofs.Common.{◌≡◌, length, map, take}
 use Rattle.ln_world_channels.specs.WorldChannel.{is_node}
-use Rattle.ln_world_dispatch.specs.Seated.{AreAside}
+use Rattle.ln_world_dispatch.specs.Slots.{AreAside}
 use Rattle.ln_world_dispatch.specs.Kept.{dispatchers_of}
 use Rattle.ln_world_dispatch.proofs.hooks.Hooks.set_aside.Given as goal
 

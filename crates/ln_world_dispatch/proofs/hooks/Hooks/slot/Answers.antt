@@ -6,5 +6,5 @@ pub returns-clause-seated : goal.returns-clause-seated
 returns-clause-seated g c =
     slots_at_place g.H.Serve.calls (λ t. t.now.items) (λ t. map (λ p. p.items) t.past.items)
     c.args.place c.args.self.now.tables.items c.index_mut.result.now c.slot.new.self c.args.hook
-    c.requires c.index_mut.ensures.value c.in_ok-slot.ensures.seated
+    c.requires c.index_mut.ensures.value c.in_ok-slot.ensures.slotted
     (ap (λ l. map (λ p. p.items) l) c.in_ok-slot.ensures.past)

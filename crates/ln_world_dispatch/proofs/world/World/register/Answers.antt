@@ -1,5 +1,5 @@
 use Rattle.std.proofs.Common.{rules, map, refl, sym, subst, ◌∙◌}
-use Rattle.ln_world_dispatch.specs.Seated.{SlotsAt}
+use Rattle.ln_world_dispatch.specs.Slots.{SlotsAt}
 use Rattle.ln_world_dispatch.proofs.Stepping.{unregistered_so, never_missed, registered_so, no_slot}
 use Rattle.ln_world_dispatch.proofs.world.World.register.Goals as goal
 
@@ -30,5 +30,5 @@ returns-clause-stepped g c =
     (subst (λ ts. SlotsAt g.H.Serve.calls c.in-Some.place
     (map (λ t. (t.now.items, map (λ p. p.items) t.past.items)) ts) c.in-Some-take.served
     (map (λ t. (t.now.items, map (λ p. p.items) t.past.items)) c.slot.new.self.tables.items)) c.take.ensures.tables
-    c.in_ok-slot.ensures.seated) (c.in_ok-slot.ensures.offered ∙ c.take.ensures.left)
+    c.in_ok-slot.ensures.slotted) (c.in_ok-slot.ensures.offered ∙ c.take.ensures.left)
     c.in_ok-step.ensures.world c.in_ok-step.ensures.told

@@ -1,6 +1,6 @@
 use Rattle.std.proofs.Common.{map, subst}
 use Rattle.ln_world_channels.specs.WorldChannel.{is_node}
-use Rattle.ln_world_dispatch.specs.Seated.{AreAside}
+use Rattle.ln_world_dispatch.specs.Slots.{AreAside}
 use Rattle.ln_world_dispatch.proofs.Stepping.{restarted_so}
 use Rattle.ln_world_dispatch.proofs.world.World.restart.Goals as goal
 

@@ -1,6 +1,6 @@
 use Rattle.std.proofs.Common.{map, refl, sym, subst, ◌∙◌}
 use Rattle.ln_world_channels.specs.WorldChannel.{is_node}
-use Rattle.ln_world_dispatch.specs.Seated.{AreAside}
+use Rattle.ln_world_dispatch.specs.Slots.{AreAside}
 use Rattle.ln_world_dispatch.proofs.Stepping.{stopped_before, unstopped_before}
 use Rattle.ln_world_dispatch.proofs.world.World.stop_before.Goals as goal
 

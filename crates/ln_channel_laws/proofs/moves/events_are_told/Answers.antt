@@ -1,5 +1,0 @@
-use Rattle.ln_channel_laws.proofs.Events.EventsOverRuns.{events_so}
-use Rattle.ln_channel_laws.proofs.moves.events_are_told.Goals as goal
-
-pub returns : goal.returns
-returns c = events_so
