@@ -1,7 +1,7 @@
 -- To an HTLC that isn't among those to which a command may be due none is, in any channel.
 use Rattle.std.proofs.Common.{◌≡◌, ℕ, List, [], ◌∷◌, refl, sym, ap, ◌∙◌, Bool, true, false, cond, Some, None}
 use Rattle.std.proofs.Common.{◌+◌, ◌<◌, ◌≤◌, length, get_or, drop}
-use Rattle.std.specs.Prelude.{not, ◌&&◌, if◌then◌else◌}
+use Rattle.std.specs.Prelude.{not, ◌&&◌, ◌||◌, if◌then◌else◌}
 use Rattle.std.proofs.lemmas.List.{drop_more, drop_all}
 use Rattle.ln_channel.specs.declared.command.Command.{Command}
 use Rattle.ln_log.specs.declared.mark.Mark.{Mark}
@@ -9,13 +9,11 @@ use Rattle.ln_log.specs.declared.mark.Mark.TheVariants as mark
 use Rattle.ln_book_tables.specs.declared.htlc.Htlc.{Htlc}
 use Rattle.ln_book_tables.specs.declared.htlc.OutgoingLeg.{OutgoingLeg}
 use Rattle.ln_book_tables.specs.declared.htlc.OutgoingLeg.TheVariants as outgoing
-use Rattle.ln_book_tables.specs.declared.htlc.IncomingLeg.{IncomingLeg}
 use Rattle.ln_book_tables.specs.declared.entry.Out.{Out}
 use Rattle.ln_book_tables.specs.declared.entry.Out.TheVariants as out
 use Rattle.ln_book_tables.specs.Replay.{same, is_open, is_settled, has_nothing_offered}
-use Rattle.ln_book_tables.specs.Due.{is_live_due, is_resolved, is_due, due_htlcs}
-use Rattle.ln_book.specs.Commands.{Services, is_resolved_in, forwards_in, has_removal, due, command_by}
-use Rattle.ln_book.specs.Commands.{or_next, first_due}
+use Rattle.ln_book_tables.specs.Due.{is_resolved, is_forwarded, has_removal, is_due, due_htlcs}
+use Rattle.ln_book.specs.Commands.{Services, is_resolved_in, forwards_in, due, command_by, or_next, first_due}
 
 not_forgotten : (c : List ℕ) (w : OutgoingLeg) → is_resolved w ≡ false → is_resolved_in c w ≡ false
 not_forgotten c outgoing.Absent e = refl
@@ -23,50 +21,44 @@ not_forgotten c outgoing.Refused e = refl
 not_forgotten c (outgoing.Offered k) e = refl
 not_forgotten c (outgoing.Resolved k how) e = absurd (let is : true ≡ false = e in cc)
 
-not_added : (c : List ℕ) (m : Mark) (w : OutgoingLeg) (b : IncomingLeg) → is_live_due m w b ≡ false
-    → (has_nothing_offered w && forwards_in c m) ≡ false
-not_added c mark.None outgoing.Absent b e = refl
-not_added c (mark.Forward d amount expiry) outgoing.Absent b e = absurd (let is : true ≡ false = e in cc)
-not_added c (mark.Fail reason) outgoing.Absent b e = refl
-not_added c (mark.Malformed code) outgoing.Absent b e = refl
-not_added c (mark.Fulfil preimage) outgoing.Absent b e = refl
-not_added c (mark.Held event) outgoing.Absent b e = refl
-not_added c m outgoing.Refused b e = refl
-not_added c m (outgoing.Offered k) b e = refl
-not_added c m (outgoing.Resolved k how) b e = refl
+not_added : (c : List ℕ) (a : Bool) (m : Mark) → (a && is_forwarded m) ≡ false → (a && forwards_in c m) ≡ false
+not_added c a mark.None e = e
+not_added c true (mark.Forward d amount expiry) e = absurd (let is : true ≡ false = e in cc)
+not_added c false (mark.Forward d amount expiry) e = refl
+not_added c a (mark.Fail reason) e = e
+not_added c a (mark.Malformed code) e = e
+not_added c a (mark.Fulfil preimage) e = e
+not_added c a (mark.Held event) e = e
 
-not_removed : (m : Mark) (w : OutgoingLeg) (b : IncomingLeg) (x : Bool) → is_live_due m w b ≡ false
-    → (has_removal m w && (is_open b && x)) ≡ false
-not_removed mark.None w b x e = refl
-not_removed (mark.Forward d amount expiry) outgoing.Absent b x e = refl
-not_removed (mark.Forward d amount expiry) outgoing.Refused b x e = ap (λ t. t && x) e
-not_removed (mark.Forward d amount expiry) (outgoing.Offered k) b x e = refl
-not_removed (mark.Forward d amount expiry) (outgoing.Resolved k how) b x e = ap (λ t. t && x) e
-not_removed (mark.Fail reason) w b x e = ap (λ t. t && x) e
-not_removed (mark.Malformed code) w b x e = ap (λ t. t && x) e
-not_removed (mark.Fulfil preimage) w b x e = ap (λ t. t && x) e
-not_removed (mark.Held event) w b x e = refl
+not_removed : (a b x : Bool) → (a && b) ≡ false → (a && (b && x)) ≡ false
+not_removed true b x e = ap (λ t. t && x) e
+not_removed false b x e = refl
 
-by_parts : (decided settled forgotten added removed resolved live : Bool) (x y z : Out)
-    → (resolved ≡ false → forgotten ≡ false) → (live ≡ false → added ≡ false) → (live ≡ false → removed ≡ false)
-    → (decided && (if settled then resolved else live)) ≡ false
+neither : (x y : Bool) → (x || y) ≡ false → (x ≡ false) × (y ≡ false)
+neither true y e = absurd (let is : true ≡ false = e in cc)
+neither false y e = (refl, e)
+
+by_parts : (decided settled forgotten added removed resolved adds removes : Bool) (x y z : Out)
+    → (resolved ≡ false → forgotten ≡ false) → (adds ≡ false → added ≡ false) → (removes ≡ false → removed ≡ false)
+    → (decided && (if settled then resolved else (adds || removes))) ≡ false
     → (if not decided then None else (if settled then (if forgotten then Some x else None)
     else (if added then Some y else (if removed then Some z else None)))) ≡ None
-by_parts false settled forgotten added removed resolved live x y z f a r e = refl
-by_parts true true forgotten added removed resolved live x y z f a r e =
-    ap (λ t. cond t (Some x) None) (f e)
-by_parts true false forgotten added removed resolved live x y z f a r e =
-    ap (λ t. cond t (Some y) (cond removed (Some z) None)) (a e) ∙ ap (λ t. cond t (Some z) None) (r e)
+by_parts false settled forgotten added removed resolved adds removes x y z f a r e = refl
+by_parts true true forgotten added removed resolved adds removes x y z f a r e = ap (λ t. cond t (Some x) None) (f e)
+by_parts true false forgotten added removed resolved adds removes x y z f a r e =
+    let none = neither adds removes e in
+    ap (λ t. cond t (Some y) (cond removed (Some z) None)) (a none.0) ∙ ap (λ t. cond t (Some z) None) (r none.1)
 
 not_due : (c : List ℕ) (h : Htlc) → is_due h ≡ false → due c h ≡ None
 not_due c h e =
     by_parts h.decided (is_settled h.incoming) (is_resolved_in c h.outgoing)
     (has_nothing_offered h.outgoing && forwards_in c h.mark)
     (has_removal h.mark h.outgoing && (is_open h.incoming && same c h.key.channel))
-    (is_resolved h.outgoing) (is_live_due h.mark h.outgoing h.incoming)
+    (is_resolved h.outgoing) (has_nothing_offered h.outgoing && is_forwarded h.mark)
+    (has_removal h.mark h.outgoing && is_open h.incoming)
     (out.Forgetting h.key) (out.Adding h.key) (out.Removing h.key)
-    (not_forgotten c h.outgoing) (not_added c h.mark h.outgoing h.incoming)
-    (not_removed h.mark h.outgoing h.incoming (same c h.key.channel)) e
+    (not_forgotten c h.outgoing) (not_added c (has_nothing_offered h.outgoing) h.mark)
+    (not_removed (has_removal h.mark h.outgoing) (is_open h.incoming) (same c h.key.channel)) e
 
 first_by : (s : Services) (c : List ℕ) (h : Htlc) (hs ds : List Htlc) (b : Bool) → is_due h ≡ b
     → first_due s c ds ≡ first_due s c hs

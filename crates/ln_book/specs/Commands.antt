@@ -1,5 +1,5 @@
 -- What each HTLC of a book has to be commanded, and the first command that can be taken.
-use Rattle.std.specs.Prelude.{ℕ, List, [], ◌∷◌, ◌++◌, Bool, true, false, not, ◌&&◌, Option, Some, None}
+use Rattle.std.specs.Prelude.{ℕ, List, [], ◌∷◌, ◌++◌, Bool, false, not, ◌&&◌, Option, Some, None}
 use Rattle.std.specs.Prelude.{Result, Ok, Err, if◌then◌else◌, Box}
 use Rattle.std.specs.List.{find}
 use Rattle.sha2.specs.Sha256.{sha256}
@@ -26,6 +26,7 @@ use Rattle.ln_book_tables.specs.declared.entry.Entry.{Entry}
 use Rattle.ln_book_tables.specs.declared.entry.Entry.TheVariants as entry
 use Rattle.ln_history.specs.History.{History, with_entry}
 use Rattle.ln_book_tables.specs.Replay.{Table, same, pending_command_at, is_open, is_settled, has_nothing_offered}
+use Rattle.ln_book_tables.specs.Due.{has_removal}
 
 -- a node's service that opens onions and wraps failures (BOLT 4)
 pub record Services : Type 0 where
@@ -52,22 +53,6 @@ forwards_in c (mark.Fail reason) = false
 forwards_in c (mark.Malformed code) = false
 forwards_in c (mark.Fulfil preimage) = false
 forwards_in c (mark.Held event) = false
-
--- the outgoing channel has told what becomes of it
-abbrev pub is_told_by : OutgoingLeg → Bool
-is_told_by outgoing.Absent = false
-is_told_by outgoing.Refused = true
-is_told_by (outgoing.Offered k) = false
-is_told_by (outgoing.Resolved k h) = true
-
--- it is known how it is to be removed
-abbrev pub has_removal : Mark → OutgoingLeg → Bool
-has_removal mark.None w = false
-has_removal (mark.Forward d amount expiry) w = is_told_by w
-has_removal (mark.Fail reason) w = true
-has_removal (mark.Malformed code) w = true
-has_removal (mark.Fulfil preimage) w = true
-has_removal (mark.Held event) w = false
 
 -- what it is due in this channel, once it is decided: what became of the outgoing HTLC is forgotten when the incoming
 -- one is settled, and not before

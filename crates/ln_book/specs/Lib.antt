@@ -1,4 +1,4 @@
 pub mod Commands
-pub mod DueCommand
+pub mod Legs
 pub mod Marks
 pub mod Settled

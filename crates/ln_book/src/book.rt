@@ -3,6 +3,7 @@
 ghost use Rattle.std.specs.Prelude.{◌≡◌, IfOk, IfErr};
 
 use crate::commands::first_command;
+use crate::legs::other_channel;
 use crate::marks::{mark_by, mark_of, offer_of};
 use ln_book_recovery::{ChannelSnapshot, Kept, kept_state_of, rebuilt_htlcs};
 use ln_book_tables::{
@@ -152,6 +153,7 @@ impl Book {
     ghost use Rattle.std.specs.Prelude.{◌⊎◌, ◌↔◌, IsErrOf, None, Some};
     ghost use Rattle.ln_book.specs.Marks.{offer_of, mark_of, decision, resumption};
     ghost use Rattle.ln_book.specs.Settled.{with_settled};
+    ghost use Rattle.ln_book.specs.Legs.{other_leg};
 
     /// Decides the event of this number by what the hooks say of it, and queues the decision for its channel: answers
     /// what is done about the event.
@@ -324,6 +326,22 @@ impl Book {
         Ok(())
     }
 
+    /// The channel of the other leg of a payment, before this channel tells of the removal of one: of an own HTLC that
+    /// was removed, the channel by which its payment came; of a peer's, that in which it was offered on. None where the
+    /// book has no such payment, and of any other event. Takes no memory.
+    pub fn other_leg(&self, channel: &ChannelId, told: &ChannelEvent) -> Option<ChannelId>
+        ensures { result ≡ other_leg channel.now told.now (table_of self.now) }
+    {
+        match told {
+            ChannelEvent::Added { .. } | ChannelEvent::Closed(_) => None,
+            ChannelEvent::Settled { own, id, .. } => {
+                let channel = *channel;
+                let id = *id;
+                other_channel(*own, &Key { channel, id }, self.tables.htlcs())
+            }
+        }
+    }
+
     // What has become of an outgoing HTLC; the second one is a copy of the first.
     fn note_resolved(&mut self, key: Key, how: How, noted: How)
         requires { noted ≡ how }
@@ -446,8 +464,7 @@ impl Book {
         ensures fails_for_memory_alone { IfErr result (λ r. r ≡ Refusal.Memory) }
     {
         let htlcs = rebuilt_htlcs(alloc, snapshots)?;
-        let places = Vec::with_capacity(alloc, htlcs.len())?;
-        self.tables.begin(alloc, htlcs, places);
+        self.tables.begin(alloc, htlcs)?;
         self.history = Past::begun(&self.tables);
         Ok(())
     }

@@ -7,13 +7,11 @@ ghost use Rattle.ln_book.specs.Commands.{services_of, next_of, add_of, malformed
 ghost use Rattle.ln_book.specs.Commands.{removal_by_outgoing};
 ghost use Rattle.ln_book.specs.Commands.{removal_by, forget_by, command_of, command_by, due, first_due, is_queued_in};
 ghost use Rattle.ln_book.specs.Commands.{queued_command};
-ghost use Rattle.ln_book.specs.DueCommand.{out_by};
-ghost use Rattle.ln_book.specs.Commands.{is_resolved_in, is_told_by, forwards_in, has_removal, first_of, first_command};
+ghost use Rattle.ln_book.specs.Commands.{is_resolved_in, forwards_in, first_of, first_command};
 ghost use Rattle.ln_book.specs.Commands.{unboxed};
-ghost use Rattle.ln_book_tables.specs.Replay.{is_open, has_nothing_offered};
 
 use byteorder::{BigEndian, ByteOrder};
-use ln_book_tables::{Htlc, IncomingLeg, Key, Out, OutgoingLeg, PendingCommand, Queued, Tables};
+use ln_book_tables::{Htlc, Out, OutgoingLeg, PendingCommand, Queued, Tables};
 use ln_bytes::Bytes;
 use ln_channel::Command;
 use ln_forward::Failure;
@@ -38,16 +36,6 @@ pub(crate) fn wrapped<O: Onion>(
     }
 }
 
-// Whether nothing was offered, and nothing was refused.
-fn has_nothing_offered(outgoing: &OutgoingLeg) -> bool
-    ensures { result ≡ has_nothing_offered outgoing.now }
-{
-    match outgoing {
-        OutgoingLeg::Absent => true,
-        OutgoingLeg::Refused | OutgoingLeg::Offered(_) | OutgoingLeg::Resolved(_, _) => false,
-    }
-}
-
 // Whether it is known what has become of it in this channel.
 fn is_resolved_in(channel: &ChannelId, outgoing: &OutgoingLeg) -> bool
     ensures { result ≡ is_resolved_in channel.now outgoing.now }
@@ -55,25 +43,6 @@ fn is_resolved_in(channel: &ChannelId, outgoing: &OutgoingLeg) -> bool
     match outgoing {
         OutgoingLeg::Absent | OutgoingLeg::Refused | OutgoingLeg::Offered(_) => false,
         OutgoingLeg::Resolved(key, _) => channel == &key.channel,
-    }
-}
-
-// Whether the outgoing channel has told what becomes of it.
-fn is_told(outgoing: &OutgoingLeg) -> bool
-    ensures { result ≡ is_told_by outgoing.now }
-{
-    match outgoing {
-        OutgoingLeg::Absent | OutgoingLeg::Offered(_) => false,
-        OutgoingLeg::Refused | OutgoingLeg::Resolved(_, _) => true,
-    }
-}
-
-fn is_open(incoming: IncomingLeg) -> bool
-    ensures { result ≡ is_open incoming }
-{
-    match incoming {
-        IncomingLeg::Open => true,
-        IncomingLeg::RemovalSent | IncomingLeg::RemovalRefused | IncomingLeg::Settled => false,
     }
 }
 
@@ -86,72 +55,18 @@ fn forwards_in(channel: &ChannelId, mark: &Mark) -> bool
     }
 }
 
-fn has_removal(mark: &Mark, outgoing: &OutgoingLeg) -> bool
-    ensures { result ≡ has_removal mark.now outgoing.now }
-{
-    match mark {
-        Mark::None | Mark::Held(_) => false,
-        Mark::Forward { .. } => is_told(outgoing),
-        Mark::Fail(_) | Mark::Malformed(_) | Mark::Fulfil(_) => true,
-    }
-}
-
-// What an HTLC is due.
-#[derive(Clone, Copy)]
-enum DueCommand {
-    Add,
-    Remove,
-    Forget,
-}
-
-impl DueCommand {
-    ghost use Rattle.std.specs.Prelude.{◌≡◌};
-    ghost use Rattle.ln_book.specs.DueCommand.{out_by};
-
-    // What its command does.
-    fn out(self, key: Key) -> Out
-        ensures { result ≡ out_by key self }
-    {
-        match self {
-            DueCommand::Add => Out::Adding(key),
-            DueCommand::Remove => Out::Removing(key),
-            DueCommand::Forget => Out::Forgetting(key),
-        }
-    }
-}
-
-// What an HTLC is due in this channel. It is asked of each HTLC: mostly one that waits for its outgoing one, to which
-// nothing is due in any channel.
-#[inline(always)]
-fn due(channel: &ChannelId, htlc: &Htlc) -> Option<DueCommand>
-    ensures { option_map (out_by htlc.now.key) result ≡ due channel.now htlc.now }
-{
-    if has_removal(&htlc.mark, &htlc.outgoing)
-        || has_nothing_offered(&htlc.outgoing)
-        || htlc.incoming.is_settled()
-    {
-        due_in(channel, htlc)
-    } else {
-        None
-    }
-}
-
-// What an HTLC is due in this channel, by what its mark, its way and its removal say.
-#[inline(never)]
-fn due_in(channel: &ChannelId, htlc: &Htlc) -> Option<DueCommand>
-    ensures { option_map (out_by htlc.now.key) result ≡ due channel.now htlc.now }
+// What an HTLC is due in this channel.
+fn due(channel: &ChannelId, htlc: &Htlc) -> Option<Out>
+    ensures { result ≡ due channel.now htlc.now }
 {
     if !htlc.decided {
         None
     } else if htlc.incoming.is_settled() {
-        is_resolved_in(channel, &htlc.outgoing).then_some(DueCommand::Forget)
-    } else if has_nothing_offered(&htlc.outgoing) && forwards_in(channel, &htlc.mark) {
-        Some(DueCommand::Add)
-    } else if has_removal(&htlc.mark, &htlc.outgoing)
-        && is_open(htlc.incoming)
-        && channel == &htlc.key.channel
-    {
-        Some(DueCommand::Remove)
+        is_resolved_in(channel, &htlc.outgoing).then_some(Out::Forgetting(htlc.key))
+    } else if htlc.outgoing.has_nothing_offered() && forwards_in(channel, &htlc.mark) {
+        Some(Out::Adding(htlc.key))
+    } else if htlc.has_removal() && htlc.incoming.is_open() && channel == &htlc.key.channel {
+        Some(Out::Removing(htlc.key))
     } else {
         None
     }
@@ -344,26 +259,8 @@ fn command_of<O: Onion>(
     }
 }
 
-// What an HTLC is due, with its command. Error: 60 alone.
-fn command_by<O: Onion>(
-    alloc: Global,
-    onion: &O,
-    htlc: &Htlc,
-    out: Out,
-) -> Result<Option<(Out, Box<Command>)>, Refusal>
-    ensures command { IfOk result (λ c. option_map unboxed c ≡ command_by (services_of O.opened O.wrapped onion.now)
-        htlc.now (Some out)) }
-    ensures fails_for_memory_alone { IfErr result (λ r. r ≡ Refusal.Memory) }
-{
-    match command_of(alloc, onion, htlc, out)? {
-        None => Ok(None),
-        Some(command) => Ok(Some((out, command))),
-    }
-}
-
 // What an HTLC is due in this channel, with its command. Error: 60 alone.
-#[inline(always)]
-fn command_in<O: Onion>(
+fn command_by<O: Onion>(
     alloc: Global,
     onion: &O,
     channel: &ChannelId,
@@ -373,9 +270,12 @@ fn command_in<O: Onion>(
         htlc.now (due channel.now htlc.now)) }
     ensures fails_for_memory_alone { IfErr result (λ r. r ≡ Refusal.Memory) }
 {
-    match due(channel, htlc) {
+    let Some(out) = due(channel, htlc) else {
+        return Ok(None);
+    };
+    match command_of(alloc, onion, htlc, out)? {
         None => Ok(None),
-        Some(due_command) => command_by(alloc, onion, htlc, due_command.out(htlc.key)),
+        Some(command) => Ok(Some((out, command))),
     }
 }
 
@@ -392,7 +292,7 @@ fn first_due<O: Onion>(
 {
     for index in 0..tables.due_count() {
         let htlc = tables.due_at(index);
-        if let Some(found) = command_in(alloc, onion, channel, htlc)? {
+        if let Some(found) = command_by(alloc, onion, channel, htlc)? {
             return Ok(Some(found));
         }
     }

@@ -4,6 +4,7 @@
 
 mod book;
 mod commands;
+mod legs;
 mod marks;
 
 pub use book::Book;

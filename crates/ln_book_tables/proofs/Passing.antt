@@ -1,7 +1,7 @@
 -- The places of those of a list that pass a test.
-use Rattle.std.proofs.Common.{◌≡◌, ℕ, ◌+◌, ◌<◌, ◌≤◌, List, [], ◌∷◌, ◌++◌, zero, suc, length, get_or, set, take, drop}
+use Rattle.std.proofs.Common.{◌≡◌, ℕ, ◌+◌, ◌<◌, ◌≤◌, List, [], ◌∷◌, ◌++◌, zero, suc, length, get_or, set, take}
 use Rattle.std.proofs.Common.{refl, sym, ap, ◌∙◌, arith, Bool, true, false, cond}
-use Rattle.std.specs.Prelude.{map, filter, nat_lt, nat_eq, not, IsTrue}
+use Rattle.std.specs.Prelude.{filter, nat_lt, nat_eq, not, IsTrue}
 use Rattle.std.proofs.Math.Dec.{leb-suc-suc, leb-suc-zero, leb-zero, eqb-suc-suc, eqb-suc-zero}
 use Rattle.std.proofs.lemmas.List.{length-map, get_or-map, length-take-le, take_more}
 use Rattle.ln_book_tables.specs.Places.{later, places_of, with_place, places_behind}

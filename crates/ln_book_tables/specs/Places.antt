@@ -1,8 +1,8 @@
--- The places of those of a list that pass a test, in order.
+-- The places of those of a list that pass a test, in order; the first is 0.
 use Rattle.std.specs.Prelude.{ℕ, suc, List, [], ◌∷◌, map, Bool, true, false, if◌then◌else◌, nat_lt, nat_eq}
 use Rattle.ln_book_tables.specs.Replay.{without_first}
 
--- behind one more
+-- each is one further, as one more stands in front
 abbrev pub later : List ℕ → List ℕ
 later ps = map (λ n. suc n) ps
 
@@ -15,7 +15,7 @@ abbrev pub with_place : ℕ → List ℕ → List ℕ
 with_place n [] = n ∷ []
 with_place n (p ∷ ps) = if nat_lt n p then n ∷ p ∷ ps else p ∷ with_place n ps
 
--- the one at this place passed before, or didn't, and passes now, or doesn't
+-- the places behind a change of the one at place n, by whether it passed before and whether it passes now
 abbrev pub places_behind : ℕ → Bool → Bool → List ℕ → List ℕ
 places_behind n false false ps = ps
 places_behind n true true ps = ps

@@ -34,7 +34,8 @@ impl Model for IndexedHtlcs {
 }
 
 impl IndexedHtlcs {
-    ghost use Rattle.std.specs.Prelude.{◌≡◌, ◌<◌, ◌≤◌, [], map, length, OnOk, OnErr, IfErr, slice_index_or};
+    ghost use Rattle.std.specs.Prelude.{◌≡◌, ◌<◌, ◌≤◌, [], map, length, OnOk, OnErr, IfOk, IfErr};
+    ghost use Rattle.std.specs.Prelude.{slice_index_or};
     ghost use Rattle.std.specs.Vec.{vec_capacity};
     ghost use Rattle.ln_book_tables.specs.Replay.{changed_first, left_out, with_mark, with_offer, htlc_kept};
     ghost use Rattle.ln_book_tables.specs.Lists.{picks, changed_by};
@@ -50,13 +51,14 @@ impl IndexedHtlcs {
         }
     }
 
-    /// These, with room for their places. Takes no memory.
-    pub(crate) fn of(items: Vec<Htlc>, mut places: Vec<usize>) -> IndexedHtlcs
-        requires { length items.items ≤ vec_capacity places }
-        ensures { result ≡ items.items }
+    /// These. Error: 60 alone.
+    pub(crate) fn of(alloc: Global, items: Vec<Htlc>) -> Result<IndexedHtlcs, Refusal>
+        ensures these { IfOk result (λ h. h ≡ items.items) }
+        ensures fails_for_memory_alone { IfErr result (λ r. r ≡ Refusal.Memory) }
     {
-        index_all(items.as_slice(), &mut places);
-        IndexedHtlcs { items, due: places }
+        let mut due = Vec::with_capacity(alloc, items.len())?;
+        index_all(items.as_slice(), &mut due);
+        Ok(IndexedHtlcs { items, due })
     }
 
     /// All of them.

@@ -420,17 +420,19 @@ impl Tables {
 }
 
 impl Tables {
-    ghost use Rattle.std.specs.Prelude.{◌≡◌, ◌≤◌, [], length};
-    ghost use Rattle.std.specs.Vec.{vec_capacity};
+    ghost use Rattle.std.specs.Prelude.{◌≡◌, [], OnOk, OnErr, IfErr};
 
-    /// These are the HTLCs, and there is room for their places; nothing is queued, and nothing is out. Takes no memory.
-    pub fn begin(&mut self, alloc: Global, htlcs: Vec<Htlc>, places: Vec<usize>)
-        requires { length htlcs.items ≤ vec_capacity places }
-        ensures { self.new ≡ record self.old { queue = []; htlcs = htlcs.items; pending_commands = [] } }
+    /// These are the HTLCs; nothing is queued, and nothing is out. Error: 60, which changes nothing.
+    pub fn begin(&mut self, alloc: Global, htlcs: Vec<Htlc>) -> Result<(), Refusal>
+        ensures begins { OnOk result
+            (self.new ≡ record self.old { queue = []; htlcs = htlcs.items; pending_commands = [] }) }
+        ensures changes_nothing_if_refused { OnErr result (self.new ≡ self.old) }
+        ensures fails_for_memory_alone { IfErr result (λ r. r ≡ Refusal.Memory) }
     {
+        self.htlcs = IndexedHtlcs::of(alloc, htlcs)?;
         self.queue = Vec::new(alloc);
-        self.htlcs = IndexedHtlcs::of(htlcs, places);
         self.pending_commands = IndexMap::new(alloc);
+        Ok(())
     }
 }
 

@@ -1,6 +1,7 @@
 -- A call of a link that is saved behind what it did, where it has to be.
 use Rattle.std.proofs.Common.{◌≡◌, ◌∙◌, ap, subst, sym, List, Bool, true, false, not, ◌&&◌, Option, Result, Ok, Err}
 use Rattle.std.proofs.Common.{inr}
+use Rattle.ln_msgs.specs.declared.messages.message.Message.{Message}
 use Rattle.ln_msgs.specs.declared.refusals.refusal.Refusal.{Refusal}
 use Rattle.ln_log.specs.declared.log.Side.{Side}
 use Rattle.ln_log.specs.Log.{Counts, same_counts}
@@ -10,7 +11,7 @@ use Rattle.ln_channel.specs.Record.{saved_end}
 use Rattle.ln_channel.specs.State.{State, StandsFor}
 use Rattle.ln_channel.specs.Step.{Done, Reaches}
 use Rattle.ln_link.specs.Saving.{StoreView, SavesIf, SavesChange, Keeps, Settles, HandsOut, HaltsAnswered}
-use Rattle.ln_link.specs.Saving.{HaltsBehind, is_forgotten, base_in, has_same_record, reached}
+use Rattle.ln_link.specs.Saving.{HaltsBehind, is_update, taken_alone, is_forgotten, base_in, has_same_record, reached}
 
 -- it is saved, and handed out
 pub handed_so : {K V : Type 0} (brings : List Output → Option Side) (outs : V → List Output)
@@ -35,6 +36,12 @@ pub halted_so : {K V : Type 0} (brings : List Output → Option Side) (outs : V 
 halted_so brings outs (Ok d) l mid new v x e before behind did is halts =
     subst (λ y. HaltsAnswered y e (reached d l) new before behind) (is ∙ ap brings did.0) (halts (reached d l) did.1)
 halted_so brings outs (Err r) l mid new v x e before behind did is halts = absurd did
+
+-- an update that was taken, by the code's words for it
+pub taken_so : (m : Message) (x : Option Side) (b : Bool) (os items : List Output) → x ≡ taken_alone b os
+    → b ≡ is_update m → os ≡ items → x ≡ taken_alone (is_update m) items
+taken_so m x b os items taken update are =
+    taken ∙ ap (λ y. taken_alone y os) update ∙ ap (λ ys. taken_alone (is_update m) ys) are
 
 -- what is kept of a link whose base has moved on
 pub settles_so : {K : Type 0} (x : Option Side) (r : Result (Unit {0}) Refusal) (l new : State K)

@@ -1,6 +1,7 @@
 -- A call that brings an update that no signature covers leaves the record of its link as it was.
-use Rattle.std.proofs.Common.{◌≡◌, ◌∙◌, ◌≤◌, ◌<◌, refl, sym, ap, subst, arith, ℕ, List, [], ◌∷◌, ◌++◌, length, take}
-use Rattle.std.proofs.Common.{Bool, true, false, ◌&&◌, ◌==◌, Option, Some, None, Result, Ok, Err, if◌then◌else◌}
+use Rattle.std.proofs.Common.{◌≡◌, ◌∙◌, ◌≤◌, ◌<◌, ◌+◌, refl, sym, ap, subst, arith, ℕ, List, [], ◌∷◌, ◌++◌, length}
+use Rattle.std.proofs.Common.{take, filter, Bool, true, false, ◌&&◌, ◌==◌, Option, Some, None, Result, Ok, Err}
+use Rattle.std.proofs.Common.{if◌then◌else◌}
 use Rattle.std.specs.Prelude.{nat_lt}
 use Rattle.std.proofs.lemmas.Bool.{and_parts, eqb-true, ltb-true}
 use Rattle.std.proofs.lemmas.List.{take-append-le, length-append}
@@ -11,6 +12,7 @@ use Rattle.ln_msgs.specs.declared.refusals.refusal.Refusal.TheVariants as refusa
 use Rattle.ln_keys.specs.Signer.{Signer}
 use Rattle.ln_log.specs.declared.log.Counts.{Counts}
 use Rattle.ln_log.specs.declared.log.Side.TheVariants as side
+use Rattle.ln_log.specs.declared.mark.Decision.{Decision}
 use Rattle.ln_log.specs.declared.update.Update.{Update}
 use Rattle.ln_log.specs.declared.update.Update.TheVariants as update
 use Rattle.ln_log.specs.Log.{Log, after_drop, after_propose, after_receive, between, same_counts}
@@ -29,19 +31,18 @@ use Rattle.ln_channel.specs.declared.output.Output.{Output}
 use Rattle.ln_channel.specs.declared.output.Output.TheVariants as output
 use Rattle.ln_channel.specs.Opening.{unless, opening_of}
 use Rattle.ln_channel.specs.Outputs.{all_of}
-use Rattle.ln_channel.specs.Ledger.{Ledger}
 use Rattle.ln_channel.specs.End.{End, Turn, quiet, with_dance, has_begun, owes_shutdown, answers_shutdown, due_fee}
 use Rattle.ln_channel.specs.End.{fee_sent, shutdown_message, due_sent, begins, completed, sending}
 use Rattle.ln_channel.specs.End as end
 use Rattle.ln_channel.specs.Taking.{takes, update_fault, update_row, message_row, completed_row}
 use Rattle.ln_channel.specs.Commands.{proposes, propose_fault, propose_row, command_row, unready_fault}
-use Rattle.ln_channel.specs.Base.{based, based_stage, next_base, without_removed}
+use Rattle.ln_channel.specs.Base.{based, based_stage, next_base, is_open, without_removed}
 use Rattle.ln_channel.specs.Record.{saved_end}
 use Rattle.ln_channel.specs.State.{State, is_connected}
 use Rattle.ln_channel.specs.Step.{Done, faulted, turned, is_passed_over, message_fault, opening_at, awaiting_at}
 use Rattle.ln_channel.specs.Step.{stage_row, at_hand, handled, opened, line_fault, obeyed, commanded, is_of_records}
 use Rattle.ln_channel.specs.Step.{noted}
-use Rattle.ln_channel.proofs.Based.{between_none, stays_whole}
+use Rattle.ln_channel.proofs.Based.{between_none}
 use Rattle.ln_store.specs.Readable.{is_readable}
 use Rattle.ln_store.specs.Record.{record_bytes}
 use Rattle.ln_store.specs.Store.{Records}
@@ -53,7 +54,7 @@ use Rattle.ln_link.specs.Calls.{Has, HasLink}
 
 -- ---- a base that stands where it stood
 
-counts : ℕ → ℕ → Counts
+abbrev counts : ℕ → ℕ → Counts
 counts own peer = record { own = own; peer = peer }
 
 same_so : (a b : Counts) → same_counts a b ≡ true → a ≡ b
@@ -61,14 +62,22 @@ same_so a b h =
     let p = and_parts (a.own == b.own) (a.peer == b.peer) h in
     ap (λ n. counts n a.peer) (eqb-true a.own b.own p.0) ∙ ap (λ n. counts b.own n) (eqb-true a.peer b.peer p.1)
 
+-- no update removes an HTLC, so each decision stays
+none_left_out : (ds : List Decision) → filter (is_open []) ds ≡ ds
+none_left_out [] = refl
+none_left_out (d ∷ ds) = ap (λ x. d ∷ x) (none_left_out ds)
+
 based_still : (e : End) → next_base e ≡ e.dance.log.first → based e ≡ e
 based_still e h =
+    let first : Counts = e.dance.log.first in
+    let nothing : between first.own first.own e.dance.log.own ≡ [] =
+    between_none first.own first.own e.dance.log.own (omega arith) in
     ap (λ (c : Counts). record e {
       dance = with_log (record e.dance.log { first = c }) e.dance;
-      ledger = without_removed (between e.dance.log.first.own c.own e.dance.log.own) e.ledger;
+      ledger = without_removed (between first.own c.own e.dance.log.own) e.ledger;
     }) h
-    ∙ ap (λ (l : Ledger). record e { ledger = l })
-    (stays_whole _ e.ledger (between_none e.dance.log.first.own e.dance.log.first.own e.dance.log.own (omega arith)))
+    ∙ ap (λ us. record e { ledger = without_removed us e.ledger }) nothing
+    ∙ ap (λ ds. record e { ledger = record e.ledger { decisions = ds } }) (none_left_out e.ledger.decisions)
 
 stage_has : (f : Option Refusal) (s : Stage) (rs : Records) → is_based s ≡ true → Has f (saved_end s) rs
     → Has f (saved_end (based_stage s)) rs

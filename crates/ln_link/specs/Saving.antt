@@ -143,7 +143,7 @@ abbrev pub SavesChange : {K : Type 0} → Option Side → State K → StoreView 
 SavesChange brought l before behind =
     SavesIf (not (has_same_record brought l.stage)) l.failure (saved_end (based_link l).stage) before behind
 
--- ---- behind what a call made of a link
+-- ---- after a call that is answered
 
 -- it halts as its base can't move on for want of memory, and nothing was to be saved yet
 abbrev pub HaltsUnsettled : {K : Type 0} → Refusal → State K → State K → StoreView → StoreView → Type 0
@@ -155,7 +155,7 @@ HaltsAnswered brought e l new before behind =
     HaltsUnsettled e l new before behind
     ⊎ ((has_same_record brought l.stage ≡ false) × HaltsUnsaved e (based_link l) new before behind)
 
--- behind a call that is answered its base moves on, and what it is then is saved where it has to be; or else it halts
+-- its base moves on, and what it is then is saved where it has to be; or else it halts
 abbrev pub Settles : {K : Type 0} → Option Side → Result (Unit {0}) Refusal → State K → State K → StoreView
     → StoreView → Type 0
 Settles brought (Ok u) l new before behind = StandsFor new (based_link l) × SavesChange brought l before behind

@@ -25,9 +25,9 @@ use std::marker::Model;
 /// funder's, as a fundee's, or from its record.
 ///
 /// What a call made of the channel is in the store before any message that tells it leaves this side: a restart finds
-/// what the peer may know of. Behind each call that is answered, what it needn't keep one by one any more is left out
+/// what the peer may know of. After each call that is answered, what it needn't keep one by one any more is left out
 /// (`ChannelMachine::compact`). An update that no signature covers is in no record, as a lost connection forgets it: a
-/// call that brings one, and nothing else, saves nothing, unless more is left out behind it. Where a save fails, by 60
+/// call that brings one, and nothing else, saves nothing, unless more is left out after it. Where a save fails, by 60
 /// for want of memory, by 61 where the store failed, by 70 where no record has these items, the link halts and answers
 /// 62 from then on; the store then has the record that it had, or, by 61, perhaps the one that was to be saved.
 #[derive(Drop)]
@@ -300,7 +300,7 @@ impl<K: ChannelKeys + Drop> Link<K> {
         }
     }
 
-    // Behind a call that is answered its base moves on, and it is saved, unless its record is what it was; or it halts.
+    // After a call that is answered its base moves on, and it is saved, unless its record is what it was; or it halts.
     fn finish<S: RecordStore>(
         &mut self,
         alloc: Global,

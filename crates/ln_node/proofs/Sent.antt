@@ -3,13 +3,13 @@ use denote.RattleType.{RattleType}
 use denote.Param.Send.{IsSend, IsSync, sendable}
 use denote.Param.SendFields.{declared_send, declared_sync, as_row_send}
 use Rattle.std.proofs.Crossing.{crosses}
-use Rattle.std.proofs.sync.OnceLock.TheSendSync as once
 use Rattle.std.specs.contracts.option.Option as Option
 use Rattle.ln_forward.specs.contracts.checks.Policy as Policy
 use Rattle.ln_book.proofs.book.Book.TheSendSync as book
 use Rattle.ln_switch.specs.contracts.uses.Use as Use
 use Rattle.ln_switch.specs.contracts.handle.BookHandle as BookHandle
-use Rattle.ln_node.proofs.wakeup.Wakeup.TheSendSync as wakeup
+use Rattle.ln_node.proofs.wakeups.ChannelWakeup.TheSendSync as own
+use Rattle.ln_node.proofs.wakeups.Wakeups.TheSendSync as wakeups
 use Rattle.ln_node.proofs.notices.Notices.TheSendSync as notices
 use Rattle.ln_node.proofs.observer.Observer.TheSendSync as observer
 use Rattle.ln_watch.proofs.watch.Watch.TheSendSync as watch
@@ -52,16 +52,19 @@ shared_send O o =
       (
         handle_send O o,
         (
-          search (sendable, crosses, once.the_send, once.the_sync) depth 9,
+          search (sendable, crosses, own.the_send, own.the_sync) depth 9,
           (
-            search (sendable, crosses, wakeup.the_send, wakeup.the_sync) depth 9,
+            search (sendable, crosses, wakeups.the_send, wakeups.the_sync) depth 9,
             (
-              search (sendable, crosses, notices.the_send, notices.the_sync) depth 9,
+              search sendable depth 12,
               (
-                search (sendable, crosses, observer.the_send, observer.the_sync) depth 9,
+                search (sendable, crosses, notices.the_send, notices.the_sync) depth 9,
                 (
-                  search (sendable, crosses, watch.the_send, watch.the_sync) depth 9,
-                  (search sendable depth 9, (search sendable depth 9, tt)),
+                  search (sendable, crosses, observer.the_send, observer.the_sync) depth 9,
+                  (
+                    search (sendable, crosses, watch.the_send, watch.the_sync) depth 9,
+                    (search sendable depth 9, (search sendable depth 9, tt)),
+                  ),
                 ),
               ),
             ),

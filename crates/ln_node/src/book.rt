@@ -6,7 +6,7 @@ ghost use Rattle.ln_switch.specs.Handles.{policy_of};
 use crate::notices::Notices;
 use crate::observer::{Monitor, Observer};
 use crate::opening::NodeLink;
-use crate::wakeup::Wakeup;
+use crate::wakeups::{ChannelWakeup, Wakeups};
 use ln_book::Book;
 use ln_channel::Command;
 use ln_forward::Policy;
@@ -20,7 +20,7 @@ use ln_switch::{BookHandle, Use, use_of, waits};
 use ln_watch::Watch;
 use std::alloc::{AllocError, Global};
 use std::snapshot::Snapshot;
-use std::sync::{Arc, Mutex, OnceLock, Wait};
+use std::sync::{Arc, Mutex, Wait};
 
 /// The book of a node, behind its lock.
 #[derive(Drop)]
@@ -47,10 +47,11 @@ impl NodeBook {
 pub struct SharedBook<O: Drop> {
     book: Arc<NodeBook>,
     handle: BookHandle<O>,
-    // The channel, once both have signed its opening.
-    id: Arc<OnceLock<ChannelId>>,
-    // Sounds where a worker of the node may have something to do.
-    wakeup: Arc<Wakeup>,
+    // The channel's wake-up, and those of the node's other channels.
+    own: Arc<ChannelWakeup>,
+    wakeups: Arc<Wakeups>,
+    // The other channel of the payment that the latest command was about.
+    other: Option<ChannelId>,
     notices: Arc<Notices>,
     // What watches the channel.
     observer: Arc<Observer>,
@@ -71,38 +72,88 @@ pub(crate) struct Common<O: Drop> {
     pub(crate) onion: O,
     /// What it asks for forwarding.
     pub(crate) policy: Policy,
-    /// Sounds where a worker may have something to do.
-    pub(crate) wakeup: Arc<Wakeup>,
+    /// What wakes the workers of its channels.
+    pub(crate) wakeups: Arc<Wakeups>,
     /// What has become of its channels.
     pub(crate) notices: Arc<Notices>,
     /// What it has done.
     pub(crate) monitor: Arc<Monitor>,
 }
 
+// The channel in which a payment goes on that is decided so.
+fn outgoing_channel(mark: &Mark) -> Option<ChannelId> {
+    match mark {
+        Mark::Forward { channel, .. } => {
+            let channel = *channel;
+            Some(channel)
+        }
+        _ => None,
+    }
+}
+
+// The channel by which a payment came.
+fn incoming_channel(origin: Option<(ChannelId, u64)>) -> Option<ChannelId> {
+    let (channel, _) = origin?;
+    Some(channel)
+}
+
+// The other channel of the payment that a command is about, where its answer may make a command due there.
+fn other_channel(command: &Command) -> Option<ChannelId> {
+    match command {
+        Command::Decide { mark, .. } => outgoing_channel(mark),
+        Command::Resume { mark, .. } => outgoing_channel(mark),
+        Command::Add { origin, .. } => incoming_channel(*origin),
+        _ => None,
+    }
+}
+
+// The same of the latest command, where there is another one.
+fn latest_other(before: Option<ChannelId>, command: Option<&Command>) -> Option<ChannelId> {
+    match command {
+        None => before,
+        Some(command) => other_channel(command),
+    }
+}
+
+// Wakes a channel's worker, and that of another channel where there is one.
+fn wake<R: Wait>(rt: &R, own: &ChannelWakeup, wakeups: &Wakeups, other: Option<ChannelId>) {
+    own.wakeup.ring();
+    if let Some(other) = other {
+        wakeups.ring(rt, &other);
+    }
+}
+
 impl<O: Onion + Copy + Drop> SharedBook<O> {
     ghost use Rattle.ln_switch.specs.Handles.{said};
     ghost use Rattle.ln_node.specs.Books.{begun_at, begun_in};
 
-    // The book, for a thread of this channel of the node, whose id will be told here; its summary is this, and this
-    // watches it.
+    // The book, for a thread of the channel of the node that has this wake-up; its summary is this, and this watches
+    // it.
     fn beside(
         alloc: Global,
         common: &Common<O>,
-        id: Arc<OnceLock<ChannelId>>,
-        watch: Arc<Watch>,
-        observer: Arc<Observer>,
+        own: &Arc<ChannelWakeup>,
+        watch: &Arc<Watch>,
+        observer: &Arc<Observer>,
         number: usize,
     ) -> Result<SharedBook<O>, AllocError>
         ensures reaches_the_book { IfOk result (λ b. begun_at b ≡ begun_in common.now) }
         ensures asks_by_the_policy { IfOk result (λ b. policy_of b.handle ≡ common.now.policy) }
         ensures nothing_was_said { IfOk result (λ b. said b.handle ≡ []) }
     {
+        let book = Arc::try_clone(&common.book)?;
+        let wakeups = Arc::try_clone(&common.wakeups)?;
+        let notices = Arc::try_clone(&common.notices)?;
+        let own = Arc::try_clone(own)?;
+        let watch = Arc::try_clone(watch)?;
+        let observer = Arc::try_clone(observer)?;
         Ok(SharedBook {
-            book: Arc::try_clone(&common.book)?,
+            book,
             handle: BookHandle::new(common.onion, common.policy),
-            id,
-            wakeup: Arc::try_clone(&common.wakeup)?,
-            notices: Arc::try_clone(&common.notices)?,
+            own,
+            wakeups,
+            other: None,
+            notices,
             observer,
             watch,
             number,
@@ -110,12 +161,13 @@ impl<O: Onion + Copy + Drop> SharedBook<O> {
         })
     }
 
-    /// The book, for the worker and the dispatcher of this channel of the node, which has no id yet; its summary is
-    /// this, and this watches it. Takes memory for the id.
+    /// The book, for the worker and the dispatcher of the channel of the node that has this wake-up; its summary is
+    /// this, and this watches it.
     pub(crate) fn pair(
         alloc: Global,
         common: &Common<O>,
-        watch: Arc<Watch>,
+        own: &Arc<ChannelWakeup>,
+        watch: &Arc<Watch>,
         observer: &Arc<Observer>,
         number: usize,
     ) -> Result<(SharedBook<O>, SharedBook<O>), AllocError>
@@ -125,23 +177,20 @@ impl<O: Onion + Copy + Drop> SharedBook<O> {
             × (policy_of b.1.handle ≡ common.now.policy)) }
         ensures nothing_was_said { IfOk result (λ b. (said b.0.handle ≡ []) × (said b.1.handle ≡ [])) }
     {
-        let id = Arc::new(alloc, OnceLock::new())?;
-        let again = Arc::try_clone(&id)?;
-        let same = Arc::try_clone(&watch)?;
-        let (one, other) = (Arc::try_clone(observer)?, Arc::try_clone(observer)?);
-        let first = SharedBook::beside(alloc, common, id, watch, one, number)?;
-        let second = SharedBook::beside(alloc, common, again, same, other, number)?;
+        let first = SharedBook::beside(alloc, common, own, watch, observer, number)?;
+        let second = SharedBook::beside(alloc, common, own, watch, observer, number)?;
         Ok((first, second))
     }
 
-    /// The channel, once both have signed its opening.
-    pub(crate) fn id(&self) -> Result<Arc<OnceLock<ChannelId>>, AllocError> {
-        Ok(Arc::try_clone(&self.id)?)
-    }
-
-    /// The channel's summary.
-    pub(crate) fn watch(&self) -> Result<Arc<Watch>, AllocError> {
-        Ok(Arc::try_clone(&self.watch)?)
+    /// The node knows the channel from now on.
+    pub(crate) fn publish<R: Wait>(&self, rt: &R, channel: ChannelId) {
+        if self.own.id.get().is_some() {
+            return;
+        }
+        let _ = self.own.id.set(rt, channel);
+        if let Ok(own) = Arc::try_clone(&self.own) {
+            self.wakeups.add(rt, channel, own);
+        }
     }
 }
 
@@ -153,7 +202,10 @@ impl<O: Onion + Copy + Drop> Books for SharedBook<O> {
     fn take<R: Wait>(&mut self, rt: &R, alloc: Global, channel: ChannelId) -> Option<Command> {
         let mut book = self.book.kept.lock(rt);
         match self.handle.take(alloc, &mut book, channel) {
-            Ok(command) => command,
+            Ok(command) => {
+                self.other = latest_other(self.other, command.as_ref());
+                command
+            }
             Err(_) => None,
         }
     }
@@ -162,7 +214,7 @@ impl<O: Onion + Copy + Drop> Books for SharedBook<O> {
         let mut book = self.book.kept.lock(rt);
         self.handle.answered(&mut book, channel, answer);
         if !waits(answer) {
-            self.wakeup.ring();
+            wake(rt, &self.own, &self.wakeups, self.other);
         }
     }
 
@@ -174,8 +226,9 @@ impl<O: Onion + Copy + Drop> Books for SharedBook<O> {
         told: &ChannelEvent,
     ) -> Result<(), Refusal> {
         let mut book = self.book.kept.lock(rt);
+        let other = book.other_leg(&channel, told);
         let done = self.handle.settled(alloc, &mut book, channel, told);
-        self.wakeup.ring();
+        wake(rt, &self.own, &self.wakeups, other);
         done
     }
 
@@ -198,7 +251,7 @@ impl<O: Onion + Copy + Drop> Books for SharedBook<O> {
                 if let Mark::Held(held) = mark {
                     self.notices.add(rt, self.number, Notice::Held(held));
                 }
-                self.wakeup.ring();
+                self.own.wakeup.ring();
                 Ok(())
             }
             Err(refusal) => Err(refusal),
@@ -222,15 +275,8 @@ impl<O: Onion + Copy + Drop> SharedBook<O> {
         }
         let mut book = self.book.kept.lock(rt);
         let done = self.handle.follow(&mut book, used);
-        self.wakeup.ring();
+        self.own.wakeup.ring();
         done
-    }
-
-    // The node knows the channel from now on.
-    fn publish<R: Wait>(&self, rt: &R, channel: ChannelId) {
-        if self.id.get().is_none() {
-            let _ = self.id.set(rt, channel);
-        }
     }
 }
 
@@ -251,7 +297,7 @@ where
             Some(channel) => {
                 let mut book = self.book.kept.lock(rt);
                 let done = self.handle.dropped(alloc, &mut book, channel);
-                self.wakeup.ring();
+                wake(rt, &self.own, &self.wakeups, self.other);
                 done
             }
         }
@@ -279,10 +325,10 @@ where
     }
 
     fn sounds(&self) -> u64 {
-        self.wakeup.sounds()
+        self.own.wakeup.sounds()
     }
 
     fn wait<R: Wait>(&self, rt: &R, sounds: u64, refused: u64) {
-        self.wakeup.wait(rt, sounds, refused);
+        self.own.wakeup.wait(rt, sounds, refused);
     }
 }

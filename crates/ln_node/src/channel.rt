@@ -3,10 +3,13 @@
 use crate::asking::{OrderAnswers, OrderReplies};
 use crate::reader::Connections;
 use crate::seat::{PatientSeat, WakingSeat};
+use crate::signing::Signing;
 use crate::socket::Socket;
 use crate::start::{start_dispatcher, start_reader, start_worker};
 use crate::wakeup::Wakeup;
+use crate::wakeups::ChannelWakeup;
 use ln_channel::Command;
+use ln_log::ChannelId;
 use ln_msgs::Message;
 use ln_node_loops::{End, Item, ReadsEnds, Table, Task, Worker, WorkerLoop, put};
 use ln_relay::{RecvSeat, SendSeat, Sends, WaitRecv, WaitSend, relay, waiting_relay};
@@ -41,6 +44,7 @@ pub(crate) type EndLoop<E, H, B, W> = WorkerLoop<
 /// A channel of a node, whose end is an `E`.
 #[derive(Drop)]
 pub(crate) struct ChannelThreads<E: Drop, H: Drop, T: Drop, B: Drop, W: Drop> {
+    wakeup: Arc<ChannelWakeup>,
     orders: Mutex<ItemSeat<W>>,
     answers: Arc<OrderAnswers>,
     hooks: Mutex<WaitSend<Task<H>>>,
@@ -66,8 +70,8 @@ pub(crate) struct Parts<E: Drop, B: Drop, T: Drop, W: Drop, L: Drop> {
     pub(crate) answers: Arc<OrderAnswers>,
     /// And as its worker has that.
     pub(crate) replies: OrderReplies,
-    /// Sounds where its worker may have something to do.
-    pub(crate) wakeup: Arc<Wakeup>,
+    /// Its wake-up.
+    pub(crate) wakeup: Arc<ChannelWakeup>,
     /// The table of its hooks.
     pub(crate) table: T,
     pub(crate) connections: Arc<Connections<W>>,
@@ -156,6 +160,22 @@ where
         &self.answers
     }
 
+    /// It signs so from now on.
+    pub(crate) fn set_signing(&self, signing: Signing) {
+        self.answers.set_signing(signing);
+        self.wake();
+    }
+
+    /// Wakes its worker.
+    pub(crate) fn wake(&self) {
+        self.wakeup.wakeup.ring();
+    }
+
+    /// Which channel it is, once both have signed its opening.
+    pub(crate) fn id(&self) -> Option<&ChannelId> {
+        self.wakeup.id.get()
+    }
+
     /// Hands a hook to its dispatcher; a full relay hands it back.
     pub(crate) fn register_hook<R: Wait>(&self, rt: &R, hook: H) -> Result<(), H> {
         let mut seat = self.hooks.lock(rt);
@@ -193,6 +213,7 @@ where
     /// Joins its threads, the reader first: it is shut. Gives its end back.
     pub(crate) fn end<R: Threads + Wait>(self, rt: &R) -> E {
         let ChannelThreads {
+            wakeup: _,
             orders,
             answers: _,
             hooks,
@@ -209,24 +230,49 @@ where
     }
 }
 
+// A value beside another one, where there is that; else it is let go. Generic in both: it doesn't matter how deep they
+// are.
+fn with<T: Drop, U: Drop>(kept: T, made: Option<U>) -> Option<(T, U)> {
+    match made {
+        Some(made) => Some((kept, made)),
+        None => {
+            drop(kept);
+            None
+        }
+    }
+}
+
 // The seats of a new channel's relays.
 #[derive(Drop)]
 struct Seats<H: Drop, W: Drop> {
-    first: SendSeat<Item<Socket<W>>>,
-    orders: SendSeat<Item<Socket<W>>>,
+    first: ReadSeat<W>,
+    orders: ItemSeat<W>,
     items: RecvSeat<Item<Socket<W>>>,
     events: WaitSend<Task<H>>,
     hooks: WaitSend<Task<H>>,
     tasks: WaitRecv<Task<H>>,
 }
 
-// New relays. Nothing where there is no memory.
-fn new_seats<H: Drop, W: Drop>(alloc: Global) -> Result<Seats<H, W>, AllocError> {
-    let (first, orders, items) = relay::<Item<Socket<W>>>(alloc, ITEMS)?;
+// New relays, whose senders wake the channel's worker. Nothing where there is no memory.
+fn new_seats<H: Drop, W: Drop>(
+    alloc: Global,
+    wakeup: &Arc<ChannelWakeup>,
+) -> Result<Seats<H, W>, AllocError> {
+    let (readers, ours) = (Arc::try_clone(wakeup)?, Arc::try_clone(wakeup)?);
     let (events, hooks, tasks) = waiting_relay::<Task<H>>(alloc, TASKS)?;
+    let (first, orders, items) = relay::<Item<Socket<W>>>(alloc, ITEMS)?;
     Ok(Seats {
-        first,
-        orders,
+        first: PatientSeat {
+            seat: WakingSeat {
+                seat: first,
+                channel: readers,
+            },
+            wakeup: Wakeup::new(),
+        },
+        orders: WakingSeat {
+            seat: orders,
+            channel: ours,
+        },
         items,
         events,
         hooks,
@@ -251,7 +297,6 @@ where
     R: Threads + Wait + Copy + Send + 'static,
 {
     let theirs = Arc::try_clone(&parts.connections)?;
-    let again = Arc::try_clone(&parts.wakeup)?;
     let Seats {
         first,
         orders,
@@ -259,7 +304,7 @@ where
         events,
         hooks,
         tasks,
-    } = new_seats::<H, W>(alloc)?;
+    } = new_seats::<H, W>(alloc, &parts.wakeup)?;
     let Parts {
         end,
         own_init,
@@ -273,17 +318,6 @@ where
         listener,
         bound,
     } = parts;
-    let first = PatientSeat {
-        seat: WakingSeat {
-            seat: first,
-            wakeup,
-        },
-        wakeup: Wakeup::new(),
-    };
-    let orders = WakingSeat {
-        seat: orders,
-        wakeup: again,
-    };
     let work = WorkerLoop {
         worker: Worker::new(end),
         items,
@@ -291,9 +325,10 @@ where
         book,
         orders: replies,
     };
-    let Some(dispatcher) = start_dispatcher::<H, WaitRecv<Task<H>>, T, B, R>(
+    let made = start_dispatcher::<H, WaitRecv<Task<H>>, T, B, R>(
         rt, alloc, tasks, table, decisions,
-    ) else {
+    );
+    let Some((work, dispatcher)) = with(work, made) else {
         return Err(AllocError);
     };
     let Some(worker) = start_worker::<
@@ -316,6 +351,7 @@ where
         return Err(AllocError);
     };
     Ok(ChannelThreads {
+        wakeup,
         orders: Mutex::new(orders),
         answers,
         hooks: Mutex::new(hooks),

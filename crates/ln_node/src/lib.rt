@@ -17,6 +17,7 @@ mod start;
 mod stored;
 mod trace;
 mod wakeup;
+mod wakeups;
 mod watch;
 
 pub use asking::{Answer, Ticket};

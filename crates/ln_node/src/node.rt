@@ -10,7 +10,7 @@ use crate::opening::NodeLink;
 use crate::reader::Connections;
 use crate::signing::Signing;
 use crate::stored::{Loaded, Stored, load_all, rebuilt_book};
-use crate::wakeup::Wakeup;
+use crate::wakeups::{ChannelWakeup, Wakeups};
 use ln_book::Book;
 use ln_book_tables::HeldHtlc;
 use ln_bytes::Bytes;
@@ -27,7 +27,7 @@ use std::alloc::{AllocError, Global};
 use std::io::{Read, Write};
 use std::net::{Net, OpenListener, OpenStream, SocketAddr, TcpListener, TcpStream};
 use std::sync::atomic::{AtomicU64, Ordering};
-use std::sync::{Arc, Mutex, OnceLock, Wait};
+use std::sync::{Arc, Mutex, Wait};
 use std::thread::Threads;
 
 /// A node of a payment channel network: channels by number, from 0, each with a reader of its connections, a worker
@@ -38,8 +38,6 @@ pub struct Node<K: ChannelKeys + Copy, S: Drop, O: Drop, H: Drop, T: Drop, W: Dr
     stopping: Arc<AtomicU64>,
     pub(crate) common: Common<O>,
     pub(crate) channels: Vec<ChannelThreads<NodeLink<K, S>, H, T, SharedBook<O>, W>>,
-    // Which channels they are, once both have signed the opening.
-    ids: Vec<Arc<OnceLock<ChannelId>>>,
     /// Their summaries.
     pub(crate) watches: Vec<Arc<Watch>>,
     // When new channels sign.
@@ -54,8 +52,9 @@ struct Shares<O: Drop, W: Drop> {
     decisions: SharedBook<O>,
     answers: Arc<OrderAnswers>,
     replies: OrderReplies,
-    wakeup: Arc<Wakeup>,
+    wakeup: Arc<ChannelWakeup>,
     connections: Arc<Connections<W>>,
+    watch: Arc<Watch>,
 }
 
 // The init that greets peers (BOLT 1, "The `init` Message"): no features.
@@ -73,6 +72,15 @@ fn keep<T: Drop>(kept: &mut Vec<T>, value: T) -> bool {
     kept.push(value).is_ok()
 }
 
+// What was kept, where it is all. Else 60.
+fn all_kept<T: Drop>(kept: Vec<T>, is_all: bool) -> Result<Vec<T>, Refusal> {
+    if is_all {
+        Ok(kept)
+    } else {
+        Err(Refusal::Memory)
+    }
+}
+
 // Listens at an address, and answers the one that is bound. 63 where it can't be.
 fn bind<L, R>(rt: &R, address: SocketAddr) -> Result<(L, SocketAddr), Refusal>
 where
@@ -88,12 +96,31 @@ where
     }
 }
 
-// Starts a channel, as the last one.
+// Listens at an address, where there is one, and answers the one that is bound. 63 where it can't be.
+fn bind_if<L, R>(
+    rt: &R,
+    address: Option<SocketAddr>,
+) -> Result<(Option<L>, Option<SocketAddr>), Refusal>
+where
+    L: OpenListener + Drop,
+    R: Net<Listener = L>,
+{
+    let Some(address) = address else {
+        return Ok((None, None));
+    };
+    let (listener, bound) = bind(rt, address)?;
+    Ok((Some(listener), Some(bound)))
+}
+
+// Starts a channel, as the last one, and keeps its summary. Generic in the end and the book: its ways out let them go,
+// and then it doesn't matter how deep they are.
 fn add<E, B, H, T, W, L, R>(
     rt: R,
     alloc: Global,
     channels: &mut Vec<ChannelThreads<E, H, T, B, W>>,
+    watches: &mut Vec<Arc<Watch>>,
     parts: Parts<E, B, T, W, L>,
+    watch: Arc<Watch>,
 ) -> Result<(), Refusal>
 where
     E: End + Drop + Send + 'static,
@@ -105,8 +132,10 @@ where
     R: Threads + Wait + Copy + Send + 'static,
 {
     channels.reserve(1)?;
+    watches.reserve(1)?;
     let channel = start(rt, alloc, parts)?;
     channels.push_reserved(channel);
+    watches.push_reserved(watch);
     Ok(())
 }
 
@@ -146,20 +175,23 @@ where
         ensures asks_by_the_policy { IfOk result (λ n. policy_of n ≡ policy) }
         ensures begins_with_the_book { IfOk result (λ n. begun_of n ≡ book) }
     {
-        let notices = Notices::new(alloc, Arc::try_clone(&monitor)?);
+        let book = Arc::new(alloc, NodeBook::new(book))?;
+        let notices = Notices::new(alloc, Arc::try_clone(&monitor)?)?;
+        let notices = Arc::new(alloc, notices)?;
+        let wakeups = Arc::new(alloc, Wakeups::new(alloc))?;
+        let stopping = Arc::new(alloc, AtomicU64::new(0))?;
         let common = Common {
-            book: Arc::new(alloc, NodeBook::new(book))?,
+            book,
             onion,
             policy,
-            wakeup: Arc::new(alloc, Wakeup::new())?,
-            notices: Arc::new(alloc, notices)?,
+            wakeups,
+            notices,
             monitor,
         };
         Ok(Node {
-            stopping: Arc::new(alloc, AtomicU64::new(0))?,
+            stopping,
             common,
             channels: Vec::new(alloc),
-            ids: Vec::new(alloc),
             watches: Vec::new(alloc),
             signing: Signing::WhenOrdered,
         })
@@ -171,7 +203,7 @@ where
     }
 
     /// What has become of its channels since this was called last, each notice with its channel's number: the latest
-    /// 256 at most. Takes no memory.
+    /// 256 at most. Takes memory; where there is none it answers none, and a later call does.
     pub fn notices<R: Wait>(&self, rt: &R, alloc: Global) -> Vec<(usize, Notice)> {
         self.common.notices.take(rt, alloc)
     }
@@ -202,7 +234,12 @@ where
     }
 
     // What a new channel with this end has of the node.
-    fn shares(&self, alloc: Global, end: &NodeLink<K, S>) -> Result<Shares<O, W>, Refusal>
+    fn shares<R: Wait>(
+        &self,
+        rt: &R,
+        alloc: Global,
+        end: &NodeLink<K, S>,
+    ) -> Result<Shares<O, W>, Refusal>
         ensures reach_the_book { IfOk result (λ s. (begun_at s.book ≡ begun_of self.now)
             × (begun_at s.decisions ≡ begun_of self.now)) }
         ensures asks_by_the_policy { IfOk result (λ s. (handles.policy_of s.book.handle ≡ policy_of self.now)
@@ -211,19 +248,21 @@ where
             × (handles.said s.decisions.handle ≡ [])) }
     {
         let own_init = own_init(alloc)?;
-        let wakeup = Arc::try_clone(&self.common.wakeup)?;
+        self.common.wakeups.reserve(rt, self.channels.len())?;
+        let wakeup = Arc::new(alloc, ChannelWakeup::new())?;
         let connections = self.connections(alloc)?;
         let watch = Arc::new(alloc, Watch::new(alloc, end.saved.link.channel_machine()))?;
+        let answers = Arc::new(alloc, OrderAnswers::new(self.signing))?;
+        let replies = self.replies(Arc::try_clone(&answers)?)?;
         let number = self.channels.len();
         let (book, decisions) = SharedBook::pair(
             alloc,
             &self.common,
-            watch,
+            &wakeup,
+            &watch,
             &end.saved.store.observer,
             number,
         )?;
-        let answers = Arc::new(alloc, OrderAnswers::new(self.signing))?;
-        let replies = self.replies(Arc::try_clone(&answers)?)?;
         Ok(Shares {
             own_init,
             decisions,
@@ -232,6 +271,7 @@ where
             replies,
             wakeup,
             connections,
+            watch,
         })
     }
 
@@ -259,11 +299,8 @@ where
             replies,
             wakeup,
             connections,
+            watch,
         } = shares;
-        self.ids.reserve(1)?;
-        self.watches.reserve(1)?;
-        let id = book.id()?;
-        let watch = book.watch()?;
         let parts = Parts {
             end,
             own_init,
@@ -277,10 +314,14 @@ where
             listener,
             bound,
         };
-        add(rt, alloc, &mut self.channels, parts)?;
-        self.ids.push_reserved(id);
-        self.watches.push_reserved(watch);
-        Ok(())
+        add(
+            rt,
+            alloc,
+            &mut self.channels,
+            &mut self.watches,
+            parts,
+            watch,
+        )
     }
 
     /// Listens for the connections of a new channel, one after the other, as the fundee with this config, and answers
@@ -306,7 +347,7 @@ where
     {
         let end = NodeLink::fundee(alloc, keys, config, self.observed(alloc, store)?)?;
         let (listener, bound) = bind(&rt, address)?;
-        let shares = self.shares(alloc, &end)?;
+        let shares = self.shares(&rt, alloc, &end)?;
         self.start(rt, alloc, shares, end, table, Some(listener), Some(bound))?;
         Ok(bound)
     }
@@ -335,7 +376,7 @@ where
         let Ok(stream) = TcpStream::connect(&rt, address) else {
             return Err(Refusal::Io);
         };
-        let shares = self.shares(alloc, &end)?;
+        let shares = self.shares(&rt, alloc, &end)?;
         shares.connections.follow(&rt, stream);
         self.start::<R::Listener, R>(rt, alloc, shares, end, table, None, None)
     }
@@ -387,15 +428,12 @@ where
         R::Listener: Send + 'static,
         ensures settings_stay { self.new.common ≡ self.old.common }
     {
-        let shares = self.shares(alloc, &end)?;
+        let (listener, bound) = bind_if::<R::Listener, R>(&rt, address)?;
+        let shares = self.shares(&rt, alloc, &end)?;
         if let Some(channel) = end.saved.link.channel_machine().saved() {
-            let _ = shares.book.id()?.set(&rt, channel.id());
+            shares.book.publish(&rt, channel.id());
         }
-        let Some(address) = address else {
-            return self.start::<R::Listener, R>(rt, alloc, shares, end, table, None, None);
-        };
-        let (listener, bound) = bind(&rt, address)?;
-        self.start(rt, alloc, shares, end, table, Some(listener), Some(bound))
+        self.start(rt, alloc, shares, end, table, listener, bound)
     }
 
     // Starts channels whose ends were loaded.
@@ -492,7 +530,9 @@ where
         if let Ok(mark) = &answer {
             self.common.monitor.tally.decide(mark);
         }
-        self.common.wakeup.ring();
+        if let Some(channel) = self.channels.get(channel) {
+            channel.wake();
+        }
         answer
     }
 
@@ -514,7 +554,7 @@ where
 
     // The number of a channel.
     fn number_of(&self, id: &ChannelId) -> Option<usize> {
-        self.ids.iter().position(|channel| match channel.get() {
+        self.channels.iter().position(|channel| match channel.id() {
             None => false,
             Some(known) => known == id,
         })
@@ -522,7 +562,7 @@ where
 
     // Which channel it is, once both have signed its opening.
     fn id(&self, channel: usize) -> Option<ChannelId> {
-        self.ids.get(channel)?.get().copied()
+        self.channels.get(channel)?.id().copied()
     }
 
     /// Registers a hook, which is called on each of a channel's events from then on. A full relay, or a channel that
@@ -583,9 +623,6 @@ where
                 are_kept = false;
             }
         }
-        if !are_kept {
-            return Err(Refusal::Memory);
-        }
-        Ok(stores)
+        all_kept(stores, are_kept)
     }
 }

@@ -1,16 +1,17 @@
 //! Senders' seats that wake the receiver, or wait for it.
 
 use crate::wakeup::Wakeup;
+use crate::wakeups::ChannelWakeup;
 use ln_relay::Sends;
 use std::sync::{Arc, Wait};
 
-/// A sender's seat that sounds a wake-up after each item that it has put.
+/// A sender's seat that wakes the channel's worker after each item that it has put.
 #[derive(Drop)]
 pub(crate) struct WakingSeat<S: Drop> {
     /// The seat.
     pub(crate) seat: S,
-    /// The wake-up.
-    pub(crate) wakeup: Arc<Wakeup>,
+    /// The channel's wake-up.
+    pub(crate) channel: Arc<ChannelWakeup>,
 }
 
 impl<T: Drop, S: Sends<T> + Drop> Sends<T> for WakingSeat<S> {
@@ -23,7 +24,7 @@ impl<T: Drop, S: Sends<T> + Drop> Sends<T> for WakingSeat<S> {
     fn send<R: Wait>(&mut self, rt: &R, item: T) -> Result<(), T> {
         let sent = self.seat.send(rt, item);
         if sent.is_ok() {
-            self.wakeup.ring();
+            self.channel.wakeup.ring();
         }
         sent
     }

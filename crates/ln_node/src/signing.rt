@@ -31,20 +31,20 @@ where
     pub fn set_signing(&mut self, signing: Signing) {
         self.signing = signing;
         for channel in &self.channels {
-            channel.answers().set_signing(signing);
+            channel.set_signing(signing);
         }
-        self.common.wakeup.ring();
     }
 
     /// A channel signs so from now on, whatever the others do. Takes no memory.
     ///
     /// Error: 40 where there is no such channel.
     pub fn set_signing_of(&self, channel: usize, signing: Signing) -> Result<(), Refusal> {
-        let Some(channel) = self.channels.get(channel) else {
-            return Err(Refusal::NotReady);
-        };
-        channel.answers().set_signing(signing);
-        self.common.wakeup.ring();
-        Ok(())
+        match self.channels.get(channel) {
+            None => Err(Refusal::NotReady),
+            Some(channel) => {
+                channel.set_signing(signing);
+                Ok(())
+            }
+        }
     }
 }

@@ -15,9 +15,10 @@ use Rattle.ln_book_tables.specs.declared.htlc.Htlc.{Htlc}
 use Rattle.ln_book_tables.specs.declared.entry.Out.{Out}
 use Rattle.ln_book_tables.specs.declared.entry.Out.TheVariants as out
 use Rattle.ln_book_tables.specs.Replay.{same, is_settled, has_nothing_offered, is_open}
+use Rattle.ln_book_tables.specs.Due.{has_removal}
 use Rattle.ln_book.specs.Commands.{Services, due, command_of, command_by, first_due, or_next, with_out, is_resolved_in}
 use Rattle.ln_book.specs.Commands.{forwards_in}
-use Rattle.ln_book.specs.Commands.{has_removal, removal_by, removal_by_outgoing, removal_resolved}
+use Rattle.ln_book.specs.Commands.{removal_by, removal_by_outgoing, removal_resolved}
 use Rattle.ln_book.specs.Commands.{forget_by}
 use Rattle.ln_payment.specs.Parts.{Kind, Fulfils, Fails, Forward, Answer, OutgoingLeg, Absent, Refused, Offered}
 use Rattle.ln_payment.specs.Parts.{Resolved}

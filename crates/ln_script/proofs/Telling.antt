@@ -40,7 +40,7 @@ same_hooks v (Some s) d = refl
 
 module _ {H : Type 0} (calls : H → ChannelEvent → Verdict → H → Type 0) where
   pub as_many_stand : (m : Moment calls) → AllStand calls m → length m.tables ≡ length m.world.dispatchers.dispatchers
-  as_many_stand m a = as_many_tables calls a.handed a.answers m.world.dispatchers.dispatchers m.tables a.stand.seated
+  as_many_stand m a = as_many_tables calls a.handed a.answers m.world.dispatchers.dispatchers m.tables a.stand.slotted
 
   stands_on : (s : ToyStep) (m n : Moment calls) → AllStand calls m → OneTold calls s m n → AllStand calls n
   stands_on s m n a t =

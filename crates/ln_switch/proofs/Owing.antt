@@ -37,7 +37,8 @@ use Rattle.ln_book_tables.specs.Replay.{is_open, is_outgoing_lost, is_among, inc
 use Rattle.ln_book_tables.specs.Replay.{kept_at}
 use Rattle.ln_book_tables.specs.Replay.{put_back_all}
 use Rattle.ln_book_tables.specs.Replay.{is_later, refused, left_out, is_queued}
-use Rattle.ln_book.specs.Commands.{Services, is_resolved_in, forwards_in, has_removal, due, removal_by}
+use Rattle.ln_book_tables.specs.Due.{has_removal}
+use Rattle.ln_book.specs.Commands.{Services, is_resolved_in, forwards_in, due, removal_by}
 use Rattle.ln_book.specs.Commands.{with_out, command_by, command_of, or_next, first_due, is_queued_in, queued_command}
 use Rattle.ln_book.specs.Commands.{first_of, first_at, first_command, with_taken, with_answered}
 use Rattle.ln_switch.specs.Answers.{replied}

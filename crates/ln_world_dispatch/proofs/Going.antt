@@ -122,7 +122,7 @@ module _ {K W S : Type 0} (nodes : W → World K) (happens : Verdict → S → W
       answers = λ i j. Continue;
       stand = subst (λ (x : World K). Stand calls handed (λ i j. Continue) x.used x.dispatchers []
           (map Some handed)) (sym is)
-          (record { once = λ i. omega arith; seated = tt; offered = left_handed calls handed });
+          (record { once = λ i. omega arith; slotted = tt; offered = left_handed calls handed });
       count = sym (ap (λ (x : World K). x.hooks) is);
       so = λ b agree. (refl, append-nil lines);
     }
@@ -155,4 +155,4 @@ module _ {K W S : Type 0} (nodes : W → World K) (happens : Verdict → S → W
     pub ran_many : (start : W) (ss : List S) (w : W) (ts : List (Tables calls)) (left : List (Option H))
         (lines lines' : List Line) → Ran start ss w ts left lines lines' → length ts ≡ length (nodes w).dispatchers
     ran_many start ss w ts left lines lines' ran =
-        as_many_tables calls handed ran.answers (nodes w).dispatchers ts ran.stand.seated
+        as_many_tables calls handed ran.answers (nodes w).dispatchers ts ran.stand.slotted

@@ -20,19 +20,19 @@ pub served_slots : (i : ℕ) (e : End) (event : ChannelEvent) (v : Verdict) (ds 
 served_slots i e event v [] = refl
 served_slots i e event v (d ∷ ds) = served_by (is_at e d) i e event v d ds (served_slots i e event v ds)
 
-seated_by : (b : Bool) (i : ℕ) (e : End) (hook : ℕ) (d : Dispatcher) (ds : List Dispatcher)
+slotted_by : (b : Bool) (i : ℕ) (e : End) (hook : ℕ) (d : Dispatcher) (ds : List Dispatcher)
     → slots_of i (at_dispatcher e (registered hook) ds) ≤ slots_of i ds + cond (hook == i) 1 0
     → slots_of i (cond b (registered hook d ∷ ds) (d ∷ at_dispatcher e (registered hook) ds))
     ≤ slots_of i (d ∷ ds) + cond (hook == i) 1 0
-seated_by true i e hook d ds le =
+slotted_by true i e hook d ds le =
     let p = sum_push (one_at i d.epoch) d.epoch.slots (record { hook = hook; place = next d.epoch }) in
     omega (arith, p)
-seated_by false i e hook d ds le = omega (arith, le)
+slotted_by false i e hook d ds le = omega (arith, le)
 
-pub seated_slots : (i : ℕ) (e : End) (hook : ℕ) (ds : List Dispatcher)
+pub slotted_slots : (i : ℕ) (e : End) (hook : ℕ) (ds : List Dispatcher)
     → slots_of i (at_dispatcher e (registered hook) ds) ≤ slots_of i ds + cond (hook == i) 1 0
-seated_slots i e hook [] = omega arith
-seated_slots i e hook (d ∷ ds) = seated_by (is_at e d) i e hook d ds (seated_slots i e hook ds)
+slotted_slots i e hook [] = omega arith
+slotted_slots i e hook (d ∷ ds) = slotted_by (is_at e d) i e hook d ds (slotted_slots i e hook ds)
 
 pub any_push : (i : ℕ) (used : List ℕ) (hook : ℕ)
     → list_any (λ h. h == i) (used ++ hook ∷ []) ≡ list_any (λ h. h == i) used || (hook == i)

@@ -600,8 +600,8 @@ served_stays event v d = record {
       let below = b.1 in (b.0, omega (arith, long, below));
 }
 
-seated_stays : (hook : ℕ) (d : Dispatcher) → Stays (registered hook) d
-seated_stays hook d = record { end = refl; side = refl; within = λ n b. b }
+slotted_stays : (hook : ℕ) (d : Dispatcher) → Stays (registered hook) d
+slotted_stays hook d = record { end = refl; side = refl; within = λ n b. b }
 
 second_true : (a b c : Bool) → a && (b && c) ≡ true → b ≡ true
 second_true true true c h = refl
@@ -721,10 +721,10 @@ module _ {K : Type 0} (k : Ghosts K) where
   served_by e v None cs ds h = h
   served_by e v (Some p) cs ds h = one_by_one e (serving p.1 v) cs ds (served_stays p.1 v) h
 
-  seated_by : (b : Bool) (e : End) (hook : ℕ) (cs : List (WorldChannel K)) (ds : List Dispatcher) → Aligned cs ds
+  slotted_by : (b : Bool) (e : End) (hook : ℕ) (cs : List (WorldChannel K)) (ds : List Dispatcher) → Aligned cs ds
       → Aligned cs (cond b (at_dispatcher e (registered hook) ds) ds)
-  seated_by true e hook cs ds h = one_by_one e (registered hook) cs ds (seated_stays hook) h
-  seated_by false e hook cs ds h = h
+  slotted_by true e hook cs ds h = one_by_one e (registered hook) cs ds (slotted_stays hook) h
+  slotted_by false e hook cs ds h = h
 
   pub step_aligned : (v : Verdict) (s : Step K k) (w : World K) → Aligned w.channels.channels w.dispatchers
       → Aligned (happens k v s w).channels.channels (happens k v s w).dispatchers
@@ -746,7 +746,7 @@ module _ {K : Type 0} (k : Ghosts K) where
   step_aligned v (step.Up n) w h = channels_move (step.Up n) w h
   step_aligned v (step.Dispatch e) w h = served_by e v (next_event e w) w.channels.channels w.dispatchers h
   step_aligned v (step.Register e hook) w h =
-      seated_by (may_register e hook w) e hook w.channels.channels w.dispatchers h
+      slotted_by (may_register e hook w) e hook w.channels.channels w.dispatchers h
 
   pub none_aligned : Aligned (channels.empty {K = K}).channels []
   none_aligned = record { once = tt; pairs = tt }

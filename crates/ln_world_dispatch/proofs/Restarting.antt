@@ -51,23 +51,23 @@ module _ {H : Type 0} (calls : H → ChannelEvent → Verdict → H → Type 0) 
   aside_by true n d t ds ts k rest = ((tt, epochs_more d.past t.1 d.epoch t.0 k.1 k.0), rest)
   aside_by false n d t ds ts k rest = (k, rest)
 
-  pub anew_seated : (anew : Dispatcher → Bool) (n : Dispatcher → ℕ) (ds : List Dispatcher) (ts : List (Tables calls))
+  pub anew_slotted : (anew : Dispatcher → Bool) (n : Dispatcher → ℕ) (ds : List Dispatcher) (ts : List (Tables calls))
       → AllHaveSlots calls handed a ds ts
       → AllHaveSlots calls handed a (map (λ d. cond (anew d) (restarted (n d) d) d) ds) (set_aside calls anew ds ts)
-  anew_seated anew n [] [] k = tt
-  anew_seated anew n (d ∷ ds) (t ∷ ts) k =
+  anew_slotted anew n [] [] k = tt
+  anew_slotted anew n (d ∷ ds) (t ∷ ts) k =
       aside_by (anew d) (n d) d t (map (λ x. cond (anew x) (restarted (n x) x) x) ds) (set_aside calls anew ds ts) k.0
-      (anew_seated anew n ds ts k.1)
-  anew_seated anew n [] (t ∷ ts) k = elim k [ ]
-  anew_seated anew n (d ∷ ds) [] k = elim k [ ]
+      (anew_slotted anew n ds ts k.1)
+  anew_slotted anew n [] (t ∷ ts) k = elim k [ ]
+  anew_slotted anew n (d ∷ ds) [] k = elim k [ ]
 
-  pub joined_seated : (ds : List Dispatcher) (ts : List (Tables calls)) (x y : End) (r q : Role)
+  pub joined_slotted : (ds : List Dispatcher) (ts : List (Tables calls)) (x y : End) (r q : Role)
       → AllHaveSlots calls handed a ds ts
       → AllHaveSlots calls handed a (ds ++ fresh x r ∷ fresh y q ∷ []) (ts ++ ([], []) ∷ ([], []) ∷ [])
-  joined_seated [] [] x y r q k = ((tt, tt), ((tt, tt), tt))
-  joined_seated (d ∷ ds) (t ∷ ts) x y r q k = (k.0, joined_seated ds ts x y r q k.1)
-  joined_seated [] (t ∷ ts) x y r q k = elim k [ ]
-  joined_seated (d ∷ ds) [] x y r q k = elim k [ ]
+  joined_slotted [] [] x y r q k = ((tt, tt), ((tt, tt), tt))
+  joined_slotted (d ∷ ds) (t ∷ ts) x y r q k = (k.0, joined_slotted ds ts x y r q k.1)
+  joined_slotted [] (t ∷ ts) x y r q k = elim k [ ]
+  joined_slotted (d ∷ ds) [] x y r q k = elim k [ ]
 
   pub as_many_tables : (ds : List Dispatcher) (ts : List (Tables calls)) → AllHaveSlots calls handed a ds ts
       → length ts ≡ length ds

@@ -45,7 +45,7 @@ module _ {H : Type 0} (calls : H → ChannelEvent → Verdict → H → Type 0) 
     answers : List Verdict
     called : AreCalledOn (λ (h : H). h) (shown_to calls) before event answers after
     joins : v ≡ verdict answers
-    seated : (a : Answers) → AllHaveSlots calls handed a ds ts
+    slotted : (a : Answers) → AllHaveSlots calls handed a ds ts
         → HaveSlots calls handed a dispatcher.epoch dispatcher.epoch.slots before
     again : (a : Answers) → AllHaveSlots calls handed a ds ts
         → HaveSlots calls handed a (with_one event v dispatcher.epoch) dispatcher.epoch.slots after
@@ -75,7 +75,7 @@ module _ {H : Type 0} (calls : H → ChannelEvent → Verdict → H → Type 0) 
         answers = c.0.answers;
         called = c.0.called;
         joins = c.0.joins;
-        seated = λ a k. k.0.0;
+        slotted = λ a k. k.0.0;
         again = λ a k new. subst (λ l. AllHaveSlots calls handed a l (t' ∷ ts')) (sym moved) (
           (new, subst (EpochsHaveSlots calls handed a d.past) (sym c.1) k.0.1),
           subst (AllHaveSlots calls handed a ds) (sym c.2) k.1,
@@ -108,7 +108,7 @@ module _ {H : Type 0} (calls : H → ChannelEvent → Verdict → H → Type 0) 
         answers = f.answers;
         called = f.called;
         joins = f.joins;
-        seated = λ a k. f.seated a k.1;
+        slotted = λ a k. f.slotted a k.1;
         again = λ a k new. subst (λ l. AllHaveSlots calls handed a l (t' ∷ ts')) (sym moved)
             (subst (λ u. AllHaveSlots calls handed a (d ∷ at_dispatcher e (serving event v) ds) (u ∷ ts')) (sym c.0)
             (k.0, f.again a k.1 new));
@@ -173,7 +173,7 @@ module _ {H : Type 0} (calls : H → ChannelEvent → Verdict → H → Type 0) 
       let more = goes_on ds ts ts' a f in
       let l = f.dispatcher.epoch in
       let on = all_on calls handed a more (λ h. calls_of h ds) (as_before ds ts ts' a f) ds ts (λ h. omega arith) k in
-      let slots = f.seated more on in
+      let slots = f.slotted more on in
       let many = as_many calls handed more event l l.slots f.before f.answers f.after slots f.called in
       let heard = all_heard l more (λ h. answer_in h l.slots f.answers) (λ h. calls_of h ds)
       (then_said ds ts ts' a f) l.slots f.answers many
@@ -188,7 +188,7 @@ module _ {H : Type 0} (calls : H → ChannelEvent → Verdict → H → Type 0) 
       omega (arith, after, before, by) in
       record {
         more = more;
-        seated = f.again more on (further calls handed more event v l l.slots f.before f.answers f.after heard slots
+        slotted = f.again more on (further calls handed more event v l l.slots f.before f.answers f.after heard slots
             f.called);
         told = λ b agree. (
           λ h j lt. agree h j (let g = grown h in omega (arith, g, lt)) ∙ as_before ds ts ts' a f h j lt,

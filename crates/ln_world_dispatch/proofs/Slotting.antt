@@ -71,7 +71,7 @@ module _ {H : Type 0} (calls : H → ChannelEvent → Verdict → H → Type 0) 
   }
 
   -- a hook that was handed in at this place gets a slot with the end's dispatcher
-  pub record Seats (e : End) (hook : ℕ) (ds : List Dispatcher) (ts' : List (Tables calls)) : Type 0 where
+  pub record SlotsGiven (e : End) (hook : ℕ) (ds : List Dispatcher) (ts' : List (Tables calls)) : Type 0 where
     pub slotted : AllHaveSlots calls handed a (at_dispatcher e (registered hook) ds) ts'
     pub slots : (i : ℕ) → slots_of i (at_dispatcher e (registered hook) ds) ≡ slots_of i ds + cond (hook == i) 1 0
     pub as_often : (i : ℕ) → calls_of i (at_dispatcher e (registered hook) ds) ≡ calls_of i ds
@@ -80,7 +80,7 @@ module _ {H : Type 0} (calls : H → ChannelEvent → Verdict → H → Type 0) 
     abbrev SlotsThere : List Dispatcher → ℕ → Type 0
     SlotsThere ds i =
         (ts ts' : List (Tables calls)) → SlotsAt calls i ts h ts' → AllHaveSlots calls handed a ds ts
-        → Seats e hook ds ts'
+        → SlotsGiven e hook ds ts'
 
     slots_here : (d : Dispatcher) (ds : List Dispatcher) → is_at e d ≡ true → SlotsThere (d ∷ ds) 0
     slots_here d ds found (t ∷ ts) (t' ∷ ts') c k =
@@ -90,7 +90,7 @@ module _ {H : Type 0} (calls : H → ChannelEvent → Verdict → H → Type 0) 
         let new = one_more (with_slot hook l) (new_slot hook l) h l.slots t.0 (same_slots hook l l.slots t.0 k.0.0)
         (first_so hook l h is) in
         record {
-          seated = subst (λ x. AllHaveSlots calls handed a x (t' ∷ ts')) (sym moved) (
+          slotted = subst (λ x. AllHaveSlots calls handed a x (t' ∷ ts')) (sym moved) (
             (
               subst (λ hs. HaveSlots calls handed a (with_slot hook l) (l.slots ++ new_slot hook l ∷ []) hs)
                   (sym c.0) new,
@@ -114,9 +114,9 @@ module _ {H : Type 0} (calls : H → ChannelEvent → Verdict → H → Type 0) 
         let moved : at_dispatcher e (registered hook) (d ∷ ds) ≡ d ∷ at_dispatcher e (registered hook) ds =
         past_at (is_at e d) (registered hook d ∷ ds) (d ∷ at_dispatcher e (registered hook) ds) found in
         record {
-          seated = subst (λ x. AllHaveSlots calls handed a x (t' ∷ ts')) (sym moved)
+          slotted = subst (λ x. AllHaveSlots calls handed a x (t' ∷ ts')) (sym moved)
               (subst (λ u. AllHaveSlots calls handed a (d ∷ at_dispatcher e (registered hook) ds) (u ∷ ts')) (sym c.0)
-              (k.0, f.seated));
+              (k.0, f.slotted));
           slots = λ j. ap (slots_of j) moved ∙ (let s = f.slots j in omega (arith, s));
           as_often = λ j. ap (calls_of j) moved ∙ (let s = f.as_often j in omega (arith, s));
         }
@@ -125,6 +125,6 @@ module _ {H : Type 0} (calls : H → ChannelEvent → Verdict → H → Type 0) 
 
     pub slots_one : (ds : List Dispatcher) (ts ts' : List (Tables calls)) (i : ℕ) (x : Dispatcher)
         → Some i ≡ position (is_at e) ds → SlotsAt calls i ts h ts' → AllHaveSlots calls handed a ds ts
-        → Seats e hook ds ts'
+        → SlotsGiven e hook ds ts'
     slots_one ds ts ts' i x at c k =
         at_first (is_at e) SlotsThere slots_here slots_later ds i x at ts ts' c k

@@ -16,8 +16,8 @@ use Rattle.ln_world_dispatch.specs.Slots.{Answers, says_at, one_at, calls_at, sl
 use Rattle.ln_world_dispatch.specs.Slots.{set_aside, Once, Stand, Moved}
 use Rattle.ln_world_dispatch.proofs.Serving.{serves_one}
 use Rattle.ln_world_dispatch.proofs.Slotting.{slots_one}
-use Rattle.ln_world_dispatch.proofs.Restarting.{anew_total, anew_seated, joined_total, joined_seated}
-use Rattle.ln_world_dispatch.proofs.Once.{served_slots, seated_slots, any_push, room}
+use Rattle.ln_world_dispatch.proofs.Restarting.{anew_total, anew_slotted, joined_total, joined_slotted}
+use Rattle.ln_world_dispatch.proofs.Once.{served_slots, slotted_slots, any_push, room}
 
 -- ---- what is left of those that were handed in
 
@@ -64,12 +64,12 @@ module _ {H : Type 0} (calls : H → ChannelEvent → Verdict → H → Type 0) 
       → Moved calls handed a ds (λ b. says_at b (dispatcher_at e ds)) v used (at_dispatcher e
       (serving event v) ds) ts' left
   serves e event v i x ts' is c =
-      let s = serves_one calls handed e event v a ds ts ts' i x is c (once_at used ds k.once) k.seated in
+      let s = serves_one calls handed e event v a ds ts ts' i x is c (once_at used ds k.once) k.slotted in
       record {
         more = s.more;
         stand = record {
           once = λ j. let o = k.once j in let same = served_slots j e event v ds in omega (arith, o, same);
-          seated = s.seated;
+          slotted = s.slotted;
           offered = k.offered;
         };
         told = s.told;
@@ -82,16 +82,16 @@ module _ {H : Type 0} (calls : H → ChannelEvent → Verdict → H → Type 0) 
       → Moved calls handed a ds (λ b. Continue) Continue (used ++ hook ∷ []) (at_dispatcher e (registered hook) ds) ts'
       (set left hook None)
   slots e hook h i x ts' unused there is c =
-      let s = slots_one calls handed a e hook h (k.offered.own hook h there) ds ts ts' i x is c k.seated in
+      let s = slots_one calls handed a e hook h (k.offered.own hook h there) ds ts ts' i x is c k.slotted in
       record {
         more = a;
         stand = record {
           once = λ j. subst (λ b. slots_of j (at_dispatcher e (registered hook) ds) ≤ cond b 1 0) (sym
               (any_push j used hook))
               (room (slots_of j ds) (slots_of j (at_dispatcher e (registered hook) ds)) (list_any (λ u. u == j) used)
-              (hook == j) (k.once j) (seated_slots j e hook ds) (λ same.
+              (hook == j) (k.once j) (slotted_slots j e hook ds) (λ same.
               subst (λ m. list_any (λ u. u == m) used ≡ false) (eqb-true hook j same) unused));
-          seated = s.seated;
+          slotted = s.slotted;
           offered = record {
             own = λ j g at. k.offered.own j g (taken_own hook j left g at);
             there = λ j below free.
@@ -111,7 +111,7 @@ module _ {H : Type 0} (calls : H → ChannelEvent → Verdict → H → Type 0) 
     more = a;
     stand = record {
       once = λ j. let o = k.once j in let same = anew_total anew n (one_at j) ds in omega (arith, o, same);
-      seated = anew_seated calls handed a anew n ds ts k.seated;
+      slotted = anew_slotted calls handed a anew n ds ts k.slotted;
       offered = k.offered;
     };
     told = λ b agree. (
@@ -128,7 +128,7 @@ module _ {H : Type 0} (calls : H → ChannelEvent → Verdict → H → Type 0) 
     more = a;
     stand = record {
       once = λ j. let o = k.once j in let same = joined_total (one_at j) ds x y r q in omega (arith, o, same);
-      seated = joined_seated calls handed a ds ts x y r q k.seated;
+      slotted = joined_slotted calls handed a ds ts x y r q k.slotted;
       offered = k.offered;
     };
     told = λ b agree. (

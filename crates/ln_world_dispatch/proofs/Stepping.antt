@@ -209,7 +209,7 @@ module _ {K : Type 0} (k : Ghosts K) {H : Type 0} (calls : H → ChannelEvent �
       → left' ≡ set left hook None → w' ≡ happens k Continue (step.Register e hook) w
       → lines' ≡ lines ++ step_lines k Continue (step.Register e hook) w
       → Steps k calls (step.Register e hook) w ts left w' ts' left' lines lines'
-  registered_so e hook i h w w' ts ts' left left' lines lines' may there at seated still is told =
+  registered_so e hook i h w w' ts ts' left left' lines lines' may there at slotted still is told =
       let unused = free (nat_lt hook w.hooks) (list_any (λ u. u == hook) w.used) (is_some
       (dispatcher_at e w.dispatchers)) may in
       steps_by (step.Register e hook) Continue w w' ts ts' left left' lines lines' is told
@@ -218,7 +218,7 @@ module _ {K : Type 0} (k : Ghosts K) {H : Type 0} (calls : H → ChannelEvent �
       (subst (λ l. Moved calls handed a w.dispatchers (λ b. Continue) Continue (w.used ++ hook ∷ [])
       (at_dispatcher e (registered hook) w.dispatchers) ts' l) (sym still)
       (slots calls handed a w.used w.dispatchers ts left stand e hook h i (fresh e Funder) ts' unused.1
-      (item_of left hook h there) at seated)))
+      (item_of left hook h there) at slotted)))
 
   pub unregistered_so : (e : End) (hook : ℕ) (w w' : World K) (ts ts' : List (Tables calls))
       (left left' : List (Option H)) (lines lines' : List Line) → may_register e hook w ≡ false → w' ≡ w

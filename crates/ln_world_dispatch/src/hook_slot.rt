@@ -1,4 +1,4 @@
-//! Seats of hooks.
+//! Slots of hooks.
 
 /// A hook that is registered with a dispatcher.
 #[derive(Clone, Copy, PartialEq, Eq)]

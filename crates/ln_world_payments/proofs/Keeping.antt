@@ -258,15 +258,15 @@ module _ {K : Type 0} (k : Ghosts K) where
     dispatch_holds e h = set_holds (happens k v (step.Dispatch e) w) (wells.dispatch_well k n v w e h.well) refl
         (alike (book_in n w)) (served_later e (next_event e w.dispatchers) w.dispatchers.dispatchers) h
 
-    seated_later : (e : End) (hook : ℕ) (b : Bool) (ds : List Dispatcher)
+    slotted_later : (e : End) (hook : ℕ) (b : Bool) (ds : List Dispatcher)
         → DispatchersLater n ds (cond b (at_dispatcher e (registered hook) ds) ds)
-    seated_later e hook true ds c i is = one_moves e (registered hook) (λ d. refl) (λ d. omega arith) n ds c i is
-    seated_later e hook false ds c i is = is
+    slotted_later e hook true ds c i is = one_moves e (registered hook) (λ d. refl) (λ d. omega arith) n ds c i is
+    slotted_later e hook false ds c i is = is
 
     pub register_holds : (e : End) (hook : ℕ) → Holds k n w → Holds k n (happens k v (step.Register e hook) w)
     register_holds e hook h =
         set_holds (happens k v (step.Register e hook) w) (wells.register_well k n v w e hook h.well) refl
-        (alike (book_in n w)) (seated_later e hook (may_register e hook w.dispatchers) w.dispatchers.dispatchers) h
+        (alike (book_in n w)) (slotted_later e hook (may_register e hook w.dispatchers) w.dispatchers.dispatchers) h
 
     -- a new connection
     pub up_holds : (c : ℕ) → Holds k n w → Holds k n (happens k v (step.Up c) w)

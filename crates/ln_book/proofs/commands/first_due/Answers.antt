@@ -1,4 +1,4 @@
-use Rattle.std.proofs.Common.{◌≡◌, ◌<◌, ◌≤◌, ◌∙◌, ap, sym, length, option_map, rules}
+use Rattle.std.proofs.Common.{◌<◌, ◌≤◌, ◌∙◌, ap, sym, length, option_map, rules}
 use Rattle.ln_book_tables.specs.Due.{due_htlcs}
 use Rattle.ln_book.specs.Commands.{services_of, unboxed}
 use Rattle.ln_book.proofs.Due.{found_there, none_there}

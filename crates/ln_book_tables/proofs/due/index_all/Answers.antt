@@ -1,4 +1,4 @@
-use Rattle.std.proofs.Common.{◌≡◌, ◌<◌, ◌∙◌, ap, sym, arith, length, take, rules, ℕ, [], ◌∷◌, ◌++◌, cond, Vec}
+use Rattle.std.proofs.Common.{◌<◌, ◌∙◌, ap, sym, arith, length, take, rules, ℕ, [], ◌∷◌, ◌++◌, cond, Vec}
 use Rattle.std.proofs.Common.{Global}
 use Rattle.std.specs.Vec.{vec_capacity}
 use Rattle.std.proofs.lemmas.List.{length-take-le}

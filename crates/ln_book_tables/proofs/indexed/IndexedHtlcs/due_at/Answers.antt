@@ -1,4 +1,4 @@
-use Rattle.std.proofs.Common.{◌≡◌, ◌<◌, ◌∙◌, ap, arith, length, get_or}
+use Rattle.std.proofs.Common.{◌≡◌, ◌∙◌, ap, arith, length, get_or}
 use Rattle.std.specs.Vec.{vec_len}
 use Rattle.ln_book_tables.specs.Due.{is_due, due_htlcs, due_places}
 use Rattle.ln_book_tables.proofs.Passing.{as_many_as_pass, within, passes_at}

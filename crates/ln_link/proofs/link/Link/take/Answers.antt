@@ -1,8 +1,8 @@
-use Rattle.std.proofs.Common.{◌≡◌, ◌∙◌, refl, ap, inl, inr, List}
+use Rattle.std.proofs.Common.{◌∙◌, refl, inl, inr, List}
 use Rattle.ln_channel.specs.declared.output.Output.{Output}
 use Rattle.ln_channel.specs.Step.{handled}
 use Rattle.ln_link.specs.Saving.{StoreView, is_update, taken_alone}
-use Rattle.ln_link.proofs.Saved.{handed_so, halted_so}
+use Rattle.ln_link.proofs.Saved.{handed_so, halted_so, taken_so}
 use Rattle.ln_link.proofs.Refusing.{after_refusal_of}
 use Rattle.ln_link.proofs.link.Link.take.Goals as goal
 
@@ -35,8 +35,9 @@ returns-in-Ok-finish-clause-answers g c = λ l s.
     handed_so (taken_alone (is_update c.args.message)) (λ v. v.items)
     (handled (g.K.ChannelKeys.signer l.keys) l c.args.message) l c.handle.new.self c.finish.new.self c.in-Ok.outputs
     c.taken_alone-brought.result before behind (c.in-Ok.ensures.answers l (c.self.view_is ∙ s))
-    (c.taken_alone-brought.ensures ∙ ap (λ b. taken_alone b c.as_slice.result.now) c.is_update-update.ensures
-    ∙ ap (λ os. taken_alone (is_update c.args.message) os) c.as_slice.ensures.value) c.in-Ok-finish.ensures.settles
+    (taken_so c.args.message c.taken_alone-brought.result c.is_update-update.result c.as_slice.result.now
+    c.in-Ok.outputs.items c.taken_alone-brought.ensures c.is_update-update.ensures c.as_slice.ensures.value)
+    c.in-Ok-finish.ensures.settles
 
 pub returns-in-Err-finish-clause-answers : goal.returns-in-Err-finish-clause-answers
 returns-in-Err-finish-clause-answers g c = λ l s.
@@ -52,6 +53,6 @@ returns-in-Err-finish-clause-answers g c = λ l s.
     (handled (g.K.ChannelKeys.signer l.keys) l c.args.message) l c.handle.new.self c.finish.new.self c.in-Ok.outputs
     c.taken_alone-brought.result c.in-Err-finish.refusal before behind
     (c.in-Ok.ensures.answers l (c.self.view_is ∙ s))
-    (c.taken_alone-brought.ensures ∙ ap (λ b. taken_alone b c.as_slice.result.now) c.is_update-update.ensures
-    ∙ ap (λ os. taken_alone (is_update c.args.message) os) c.as_slice.ensures.value)
+    (taken_so c.args.message c.taken_alone-brought.result c.is_update-update.result c.as_slice.result.now
+    c.in-Ok.outputs.items c.taken_alone-brought.ensures c.is_update-update.ensures c.as_slice.ensures.value)
     c.in-Err-finish.ensures.settles))
