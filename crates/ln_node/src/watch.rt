@@ -28,7 +28,7 @@ where
 
     /// What is told of a channel: a copy of the summary that its worker made after its last turn. It is that of its
     /// link at one moment, also of one that is being opened, fails or has halted; it doesn't wait for a turn. An order
-    /// is answered before the summary of its turn is made. Takes memory.
+    /// is answered once the summary of its turn is made. Takes memory.
     ///
     /// Errors: 40 where there is no such channel; 60 where there is no memory for the copy, or there was none after
     /// that turn.

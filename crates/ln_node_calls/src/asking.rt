@@ -58,6 +58,13 @@ where
         must(node.answer(&self.rt, ticket) == Answer::Forgotten)
     }
 
+    // The summary of an end tells of its offer, unsigned or signed since there were so many commitments: it is made
+    // before the order is answered.
+    fn tells_of_it(&self, end: End, commitments: u64) -> Result<(), Refusal> {
+        let unsigned = self.count(end, "unsigned")?;
+        must(unsigned > 0 || self.count(end, "commitments")? > commitments)
+    }
+
     /// An end offers a payment over the channel in this block, is answered so, and signs: no connection is lost in
     /// between.
     pub fn asks_to_pay(
@@ -70,7 +77,11 @@ where
         self.wait(payer, "usable", 1)?;
         let offer = order(self.alloc, number, block, FEE)?;
         let _held = self.gate.lock(&self.rt);
+        let commitments = self.count(payer, "commitments")?;
         self.asks(payer, offer, wanted)?;
+        if let Wanted::Done(_) = wanted {
+            self.tells_of_it(payer, commitments)?;
+        }
         self.sign(payer)
     }
 

@@ -404,7 +404,6 @@ where
         let awaited = self.worker.phase == Phase::AwaitsInit;
         *busy = true;
         let turned = self.worker.serve(alloc, own_init, known, item);
-        reply(rt, &mut self.orders, subject, turned.answer);
         note(
             rt,
             &mut self.book,
@@ -422,6 +421,7 @@ where
             drops,
             turned.outputs.as_slice(),
         );
+        reply(rt, &mut self.orders, subject, turned.answer);
         self.worker.last = put_outputs(
             rt,
             &mut self.tasks,
