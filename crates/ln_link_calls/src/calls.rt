@@ -4,7 +4,7 @@ use crate::channel::{again, renew};
 use crate::commands::{command, is_command};
 use crate::end::End;
 use crate::line::bytes_of_parts;
-use crate::show::{pending, record, refused, shown, stand};
+use crate::show::{pending, record, refused, shown, stand, told_by_record};
 use ln_bytes::Fault;
 use ln_msgs::{Incoming, Message, decode};
 use ln_store::RecordStore;
@@ -165,6 +165,7 @@ fn act(
         "pass" => pass(alloc, x, y),
         "give" => give(alloc, x, y, line),
         "record" => record(alloc, x),
+        "ledger" | "shape" => told_by_record(alloc, x, word),
         "store" => store(alloc, x, y, line),
         "fails" => fail(alloc, x, line, words),
         "stand" => stand(alloc, x),

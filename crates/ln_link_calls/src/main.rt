@@ -14,6 +14,7 @@
 //! | `halt E`, `load E` | E halts; it comes back from its record |
 //! | `fails E K old`, `fails E K new` | the save of E that comes after K others fails, and leaves that record |
 //! | `record E`, `store E PARTS` | the SHA-256 of E's record; other bytes in its place, after the channel's id |
+//! | `ledger E`, `shape E` | what E's record says of events and results; of its base and window |
 //! | `stand E`, `pending E` | where E stands; the events that it hasn't decided |
 #![tactic(auto)]
 

@@ -5,6 +5,7 @@ use ln_channel::{ChannelStatus, ConnectionState, Output, Summary};
 use ln_hooks::{ChannelEvent, How};
 use ln_keys::sha256_32;
 use ln_msgs::{Message, Refusal};
+use ln_store::{Progress, Updates, decode_record};
 use std::alloc::{AllocError, Global};
 use std::fmt::Write;
 
@@ -223,4 +224,49 @@ pub fn pending(alloc: Global, x: &End) -> Result<String, AllocError> {
     drop(events);
     put?;
     Ok(text)
+}
+
+/// How many events are decided and how many aren't, how many decisions there are, and each result: the HTLC's id, and
+/// which one of which channel it forwards.
+fn ledger(alloc: Global, progress: &Progress) -> Result<String, AllocError> {
+    let decided = progress.events.decided;
+    let undecided = progress.events.undecided.as_slice().len();
+    let decisions = progress.forwards.decisions.as_slice().len();
+    let mut text = format!(in alloc;
+        "decided {decided} undecided {undecided} decisions {decisions}"
+    )?;
+    for result in progress.forwards.results.as_slice() {
+        let (id, origin) = (result.id, result.origin.1);
+        let channel = hex::encode(alloc, &result.origin.0)?;
+        write!(text, " result {id} of {origin} {channel}")?;
+    }
+    Ok(text)
+}
+
+/// How many updates of the funder and of the fundee are in the base, how many HTLCs are live there, and how many
+/// updates of each are kept one by one.
+fn shape(alloc: Global, updates: &Updates) -> Result<String, AllocError> {
+    let (funder, fundee) = (updates.base.updates.funder, updates.base.updates.fundee);
+    let live = updates.base.live.as_slice().len();
+    let of_funder = updates.window.funder.as_slice().len();
+    let of_fundee = updates.window.fundee.as_slice().len();
+    format!(in alloc; "base {funder} {fundee} live {live} window {of_funder} {of_fundee}")
+}
+
+/// What an end's record says of its events, or of its updates, by the line's word.
+pub fn told_by_record(alloc: Global, x: &mut End, word: &str) -> Result<String, AllocError> {
+    let Ok(bytes) = x.record(alloc) else {
+        return Err(AllocError);
+    };
+    let Some(bytes) = bytes else {
+        return String::from_str(alloc, "no record");
+    };
+    let found = decode_record(alloc, bytes.as_slice());
+    let text = match &found {
+        Ok(record) if word == "ledger" => ledger(alloc, &record.items().progress),
+        Ok(record) => shape(alloc, &record.items().updates),
+        Err(_) => Err(AllocError),
+    };
+    drop(found);
+    text
 }

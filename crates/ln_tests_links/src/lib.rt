@@ -24,15 +24,11 @@ mod hooks;
 #[cfg(test)]
 mod keys;
 #[cfg(test)]
-mod ledger;
-#[cfg(test)]
 mod loading;
 #[cfg(test)]
 mod log;
 #[cfg(test)]
 mod record;
-#[cfg(test)]
-mod resume;
 #[cfg(test)]
 mod store;
 #[cfg(test)]
