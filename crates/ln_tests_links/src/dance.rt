@@ -178,14 +178,13 @@ fn fields_of(update: &Update) -> [u64; 4] {
 /// What the update says that a message of this type tells, whose bytes behind the type are these, each so many times;
 /// zeros where it tells none.
 fn shown_update(alloc: Global, typ: u16, runs: &[(usize, u8)]) -> Result<[u64; 4], Refusal> {
-    let made = message_of(alloc, typ, runs).map(|message| update_of(message));
+    let made = update_of(message_of(alloc, typ, runs)?);
     let fields = match &made {
-        Ok(Some(update)) => Ok(fields_of(update)),
-        Ok(None) => Ok([0; 4]),
-        Err(refusal) => Err(*refusal),
+        Some(update) => fields_of(update),
+        None => [0; 4],
     };
     drop(made);
-    fields
+    Ok(fields)
 }
 
 /// A message's type, the bytes behind it, and what it tells.

@@ -143,7 +143,13 @@ fn hook(
 }
 
 fn put(table: &mut HookTable, hook: Hook) -> Result<(), Refusal> {
-    table.register(hook).map_err(|(_hook, refusal)| refusal)
+    match table.register(hook) {
+        Ok(()) => Ok(()),
+        Err((hook, refusal)) => {
+            drop(hook);
+            Err(refusal)
+        }
+    }
 }
 
 /// What three hooks answer, each to all or to what is large alone.
@@ -243,7 +249,10 @@ const CODES: [u16; 11] = [
 const OTHERS: [u16; 6] = [0, 0x1008, 0x2002, 0xc004, 0xc005, 0xc006];
 
 fn is_code(number: u16) -> bool {
-    FailureCode::new(number).map(|code| code.number()) == Some(number)
+    match FailureCode::new(number) {
+        Some(code) => code.number() == number,
+        None => false,
+    }
 }
 
 #[test]

@@ -345,7 +345,7 @@ fn is_shown(funder: &[Update], fundee: &[Update]) -> bool {
         && outcome_of(1, fundee) == Outcome::Fulfilled
         && is_fulfilment(fundee.first(), 1)
         && !is_fulfilment(funder.first(), 0)
-        && find_add(1, funder).map(|add| add.amount) == Some(3000)
+        && matches!(find_add(1, funder), Some(add) if add.amount == 3000)
         && live_count(funder, fundee) == 1
         && last_feerate(253, funder) == 280
 }

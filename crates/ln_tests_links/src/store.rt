@@ -95,7 +95,11 @@ fn is_found<S: RecordStore>(alloc: Global, store: &mut S) -> Result<bool, Refusa
     store.save(alloc, &[7; 32], b"new")?;
     let found = store.load(alloc, &[7; 32])?;
     let ids = store.ids(alloc)?;
-    Ok(ids.len() == 1 && found.is_some_and(|record| record.as_slice() == b"new".as_slice()))
+    let is_new = match &found {
+        Some(record) => record.as_slice() == b"new".as_slice(),
+        None => false,
+    };
+    Ok(ids.len() == 1 && is_new)
 }
 
 #[test]

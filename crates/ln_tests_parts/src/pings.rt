@@ -152,7 +152,10 @@ fn is_row_answered(
     let len = pings.saturating_mul(8).min(8);
     let input = behind(alloc, &PING[..len], row.0)?;
     let output = behind(alloc, &PONG[..len], row.1)?;
-    let answer = row.2.map(|count| count.saturating_add(pings as u64));
+    let answer = match row.2 {
+        Ok(count) => Ok(count.saturating_add(pings as u64)),
+        Err(fault) => Err(fault),
+    };
     Ok(is_answered(alloc, &input, &output, answer, most))
 }
 

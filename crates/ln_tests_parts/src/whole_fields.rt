@@ -1,10 +1,9 @@
 //! Messages whose every byte tells where it stands, all refusals by their texts, and a writer that takes nothing.
 
+use crate::narrow::Narrow;
 use ln_bytes::Fault;
 use ln_msgs::{Counted, Field, Incoming, Item, Message, PeerRule, Refusal, answer_pings, decode};
 use std::alloc::{AllocError, Global};
-use std::io;
-use std::io::Write;
 
 // A type, how many bytes its fields of fixed size take, the bytes of those behind them, and the names of all.
 type Row = (u16, usize, &'static [u8], &'static [&'static str]);
@@ -287,26 +286,12 @@ fn refusals_by_their_texts(rt: HostRuntime) {
     }
 }
 
-// A writer that takes no byte.
-#[derive(Drop)]
-struct Full;
-
-impl Write for Full {
-    fn write(&mut self, _bytes: &[u8]) -> io::Result<usize> {
-        Ok(0)
-    }
-
-    fn flush(&mut self) -> io::Result<()> {
-        Ok(())
-    }
-}
-
 // A write that takes nothing of a pong is a failure: 63, counted once.
 #[test]
 fn a_write_that_takes_nothing(rt: HostRuntime) {
     let ping = [0, 6, 0, 18, 0, 2, 0, 0];
     let mut reader = Counted::new(ping.as_slice());
-    let mut writer = Counted::new(Full);
+    let mut writer = Counted::new(Narrow::new(rt.alloc(), 0, u64::MAX));
     assert!(rt; answer_pings(rt.alloc(), &mut reader, &mut writer) == Err(Fault::Io));
     assert!(rt; (reader.failures(), writer.failures()) == (0, 1));
 }

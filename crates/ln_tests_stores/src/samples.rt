@@ -31,7 +31,10 @@ impl Sample {
     pub fn is_in<S: RecordStore>(&self, alloc: Global, store: &mut S) -> Result<bool, Refusal> {
         let body = self.body(alloc)?;
         let found = store.load(alloc, &[self.id; 32])?;
-        Ok(found.is_some_and(|record| record.as_slice() == body.as_slice()))
+        match &found {
+            Some(record) => Ok(record.as_slice() == body.as_slice()),
+            None => Ok(false),
+        }
     }
 }
 
