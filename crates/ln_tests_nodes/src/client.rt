@@ -23,11 +23,10 @@ pub(crate) struct Client {
     stream: TcpStream,
 }
 
-fn failed() -> io::Error {
+/// What a test that can't go on ends with.
+pub(crate) fn failed() -> io::Error {
     io::Error::from(io::ErrorKind::Other)
 }
-
-fn let_go<T: Drop>(_value: T) {}
 
 fn boxed<T: Drop>(alloc: Global, value: T) -> io::Result<Box<T>> {
     Ok(Box::new(alloc, value)?)
@@ -56,6 +55,16 @@ fn new_end(
     )
 }
 
+// A connection whose reads wait for twenty seconds.
+fn connected<R>(rt: &R, address: SocketAddr) -> io::Result<TcpStream>
+where
+    R: Net<Listener = TcpListener, Stream = TcpStream>,
+{
+    let stream = TcpStream::connect(rt, address)?;
+    stream.set_read_timeout(Some(Duration::from_secs(20)))?;
+    Ok(stream)
+}
+
 fn init(alloc: Global) -> Message {
     Message::Init(Init {
         global_features: Bytes::empty(alloc),
@@ -65,34 +74,38 @@ fn init(alloc: Global) -> Message {
 }
 
 impl Client {
-    /// Connects with a node, and begins to open a channel.
+    /// Connects with a node, and begins to open a channel. In a box: what owns it across `?` doesn't pay for its depth.
     pub(crate) fn connect<R>(
         rt: &R,
         alloc: Global,
         keys: ToyKeys,
         txid: [u8; 32],
         address: SocketAddr,
-    ) -> io::Result<Client>
+    ) -> io::Result<Box<Client>>
     where
         R: Net<Listener = TcpListener, Stream = TcpStream>,
     {
-        let end = new_end(alloc, keys, txid)?;
-        let stream = TcpStream::connect(rt, address)?;
-        stream.set_read_timeout(Some(Duration::from_secs(20)))?;
+        let stream = connected(rt, address)?;
         let line = Counted::new(Socket::new(stream.try_clone()?));
-        let mut client = Client { end, line, stream };
-        let own_init = boxed(alloc, init(alloc))?;
-        let (outputs, answer) = worker_turn(
-            alloc,
-            &mut *client.end,
-            Item::Joined(&*own_init),
-            &mut client.line,
-        );
-        drop(outputs);
-        if answer.is_err() {
-            return Err(failed());
-        }
+        let end = new_end(alloc, keys, txid)?;
+        let mut client = boxed(alloc, Client { end, line, stream })?;
+        client.greet(alloc)?;
         Ok(client)
+    }
+
+    // Has the end take a turn, and sends what comes of it.
+    fn turn(&mut self, alloc: Global, item: Item<&Message>) -> io::Result<()> {
+        let (outputs, answer) = worker_turn(alloc, &mut *self.end, item, &mut self.line);
+        drop(outputs);
+        match answer {
+            Ok(()) => Ok(()),
+            Err(_) => Err(failed()),
+        }
+    }
+
+    fn greet(&mut self, alloc: Global) -> io::Result<()> {
+        let own_init = boxed(alloc, init(alloc))?;
+        self.turn(alloc, Item::Joined(&*own_init))
     }
 
     // The bytes of the next message.
@@ -113,40 +126,25 @@ impl Client {
         }
     }
 
-    // Hands a message to the end, and sends what it answers.
-    fn handle(&mut self, alloc: Global, message: Message) -> io::Result<()> {
-        let (outputs, answer) = worker_turn(
-            alloc,
-            &mut *self.end,
-            Item::Read(message),
-            &mut self.line,
-        );
-        drop(outputs);
-        answer.map_err(|_| failed())
-    }
-
     /// Takes so many messages, and sends what the end answers to each.
     pub(crate) fn take(&mut self, alloc: Global, count: u8) -> io::Result<()> {
         for _ in 0..count {
             let bytes = self.read(alloc)?;
-            match decode(alloc, bytes.as_slice()) {
-                Ok(Incoming::Known(message)) => self.handle(alloc, message)?,
-                _ => return Err(failed()),
-            }
+            let done = match decode(alloc, bytes.as_slice()) {
+                Ok(Incoming::Known(message)) => self.turn(alloc, Item::Read(message)),
+                other => {
+                    drop(other);
+                    Err(failed())
+                }
+            };
+            done?;
         }
         Ok(())
     }
 
     /// Has the end do this, and sends what comes of it.
     pub(crate) fn order(&mut self, alloc: Global, command: Command) -> io::Result<()> {
-        let (outputs, answer) = worker_turn(
-            alloc,
-            &mut *self.end,
-            Item::Order(command),
-            &mut self.line,
-        );
-        drop(outputs);
-        answer.map_err(|_| failed())
+        self.turn(alloc, Item::Order(command))
     }
 
     /// Leaves the connection, makes another, and greets there. The end isn't told.
@@ -155,9 +153,7 @@ impl Client {
         R: Net<Listener = TcpListener, Stream = TcpStream>,
     {
         self.stream.shutdown(Shutdown::Both)?;
-        let stream = TcpStream::connect(rt, address)?;
-        stream.set_read_timeout(Some(Duration::from_secs(20)))?;
-        self.stream = stream;
+        self.stream = connected(rt, address)?;
         self.send(&init_frame())
     }
 

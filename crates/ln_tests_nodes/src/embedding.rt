@@ -2,21 +2,15 @@
 
 mod holding;
 
+use crate::pair::{ToyNode, fundee, funder, with};
 use ln_bytes::Bytes;
 use ln_channel::Command;
-use ln_demo::{KEYS, POLICY, TXIDS, fit_config, fit_spec};
-use ln_hooks::{Hook, HookTable};
-use ln_keys::{ToyKeys, ToyOnion, sha256_32};
+use ln_keys::{ToyOnion, sha256_32};
 use ln_msgs::Refusal;
-use ln_node::Node;
-use ln_store::MemoryStore;
 use std::alloc::Global;
-use std::net::{Net, SocketAddr, TcpListener, TcpStream};
+use std::net::{Net, TcpListener, TcpStream};
 use std::sync::Wait;
 use std::thread::Threads;
-
-/// Keys and onions are services that you hand in, and so are stores; these are toys, for tests.
-type ToyNode = Node<ToyKeys, MemoryStore, ToyOnion, Hook, HookTable>;
 
 /// A payment of 70,000 millisatoshi by this preimage. Its onion tells the payee amt_to_forward, outgoing_cltv_value
 /// 400 and payment_data with the secret, 32 bytes of 8 (BOLT 4, "`payload` Format").
@@ -39,26 +33,12 @@ fn payment(alloc: Global, preimage: &[u8; 32]) -> Result<Command, Refusal> {
     }
 }
 
-/// Two nodes: the payee listens; the payer connects, and opens a channel.
+/// The payee, which listens, and the payer, which connects and opens a channel.
 fn nodes<R>(rt: R, alloc: Global) -> Result<(ToyNode, ToyNode), Refusal>
 where
     R: Net<Listener = TcpListener, Stream = TcpStream> + Threads + Wait + Copy + Send + 'static,
 {
-    let [payer_keys, payee_keys, _, _] = KEYS;
-    let any_port = SocketAddr::from(([127, 0, 0, 1], 0));
-    let mut payee: ToyNode = Node::new(alloc, ToyOnion, POLICY)?;
-    let (config, store, table) = (
-        fit_config(alloc)?,
-        MemoryStore::new(alloc),
-        HookTable::new(alloc),
-    );
-    let address = payee.listen(rt, alloc, payee_keys, config, store, table, any_port)?;
-    let mut payer: ToyNode = Node::new(alloc, ToyOnion, POLICY)?;
-    let (spec, store, table) = (
-        fit_spec(alloc, TXIDS[0])?,
-        MemoryStore::new(alloc),
-        HookTable::new(alloc),
-    );
-    payer.connect(rt, alloc, payer_keys, spec, store, table, address)?;
-    Ok((payer, payee))
+    let (payee, address) = fundee(rt, alloc)?;
+    let payer = funder(rt, alloc, address);
+    with(payee, payer)
 }

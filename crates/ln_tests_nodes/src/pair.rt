@@ -1,9 +1,9 @@
-//! Two nodes with one channel, and what tests wait for.
+//! Nodes that listen and connect, and what tests wait for.
 
 use ln_channel::Command;
 use ln_demo::{KEYS, POLICY, SHORT_IDS, TXIDS, fit_config, fit_spec};
 use ln_hooks::{Hook, HookTable};
-use ln_keys::{ToyKeys, ToyOnion};
+use ln_keys::{ChannelKeys, ToyKeys, ToyOnion};
 use ln_msgs::{Refusal, channel_id};
 use ln_node::Node;
 use ln_store::MemoryStore;
@@ -13,7 +13,10 @@ use std::sync::Wait;
 use std::thread;
 use std::thread::Threads;
 
-pub(crate) type ToyNode = Node<ToyKeys, MemoryStore, ToyOnion, Hook, HookTable>;
+/// A node whose channels have such keys.
+pub(crate) type KeyedNode<K> = Node<K, MemoryStore, ToyOnion, Hook, HookTable>;
+
+pub(crate) type ToyNode = KeyedNode<ToyKeys>;
 
 /// How often a test looks, until it gives up.
 const TURNS: u64 = 1_000_000;
@@ -25,6 +28,52 @@ pub(crate) fn loopback() -> SocketAddr {
     SocketAddr::from(([127, 0, 0, 1], 0))
 }
 
+/// A value beside what else was made, or why that wasn't. What is generic pays nothing for the depth of what it drops.
+pub(crate) fn with<T: Drop, U: Drop>(kept: T, made: Result<U, Refusal>) -> Result<(T, U), Refusal> {
+    let made = made?;
+    Ok((kept, made))
+}
+
+// A value once this is done.
+fn after<T: Drop>(kept: T, done: Result<(), Refusal>) -> Result<T, Refusal> {
+    done?;
+    Ok(kept)
+}
+
+/// A node listens for one more channel.
+pub(crate) fn listen<K, R>(
+    rt: R,
+    alloc: Global,
+    node: &mut KeyedNode<K>,
+    keys: K,
+) -> Result<SocketAddr, Refusal>
+where
+    K: ChannelKeys + Copy + Send + 'static,
+    R: Net<Listener = TcpListener, Stream = TcpStream> + Threads + Wait + Copy + Send + 'static,
+{
+    let config = fit_config(alloc)?;
+    let store = MemoryStore::new(alloc);
+    let table = HookTable::new(alloc);
+    node.listen(rt, alloc, keys, config, store, table, loopback())
+}
+
+// A node opens a channel with the one at this address.
+fn connect<R>(
+    rt: R,
+    alloc: Global,
+    node: &mut ToyNode,
+    keys: ToyKeys,
+    address: SocketAddr,
+) -> Result<(), Refusal>
+where
+    R: Net<Listener = TcpListener, Stream = TcpStream> + Threads + Wait + Copy + Send + 'static,
+{
+    let spec = fit_spec(alloc, TXIDS[0])?;
+    let store = MemoryStore::new(alloc);
+    let table = HookTable::new(alloc);
+    node.connect(rt, alloc, keys, spec, store, table, address)
+}
+
 /// A node that listens for a channel.
 pub(crate) fn fundee<R>(rt: R, alloc: Global) -> Result<(ToyNode, SocketAddr), Refusal>
 where
@@ -32,17 +81,8 @@ where
 {
     let [_, keys, _, _] = KEYS;
     let mut node: ToyNode = Node::new(alloc, ToyOnion, POLICY)?;
-    let config = fit_config(alloc)?;
-    let address = node.listen(
-        rt,
-        alloc,
-        keys,
-        config,
-        MemoryStore::new(alloc),
-        HookTable::new(alloc),
-        loopback(),
-    )?;
-    Ok((node, address))
+    let address = listen(rt, alloc, &mut node, keys);
+    with(node, address)
 }
 
 /// A node that opens a channel with the one at this address.
@@ -52,17 +92,17 @@ where
 {
     let [keys, _, _, _] = KEYS;
     let mut node: ToyNode = Node::new(alloc, ToyOnion, POLICY)?;
-    let spec = fit_spec(alloc, TXIDS[0])?;
-    node.connect(
-        rt,
-        alloc,
-        keys,
-        spec,
-        MemoryStore::new(alloc),
-        HookTable::new(alloc),
-        address,
-    )?;
-    Ok(node)
+    let done = connect(rt, alloc, &mut node, keys, address);
+    after(node, done)
+}
+
+/// Stops a node. The checker shows here that hooks and tables may go to other threads: in a long function it gives up.
+pub(crate) fn stopped<K, R>(rt: R, node: KeyedNode<K>)
+where
+    K: ChannelKeys + Copy + Send + 'static,
+    R: Net<Listener = TcpListener, Stream = TcpStream> + Threads + Wait + Copy + Send + 'static,
+{
+    node.stop(rt);
 }
 
 // Whether a node's channel takes payments.

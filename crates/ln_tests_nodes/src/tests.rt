@@ -1,38 +1,38 @@
 //! Hooks and workers beside each other, over loopback (each wait is bounded).
 
-use crate::client::Client;
+use crate::client::{Client, failed};
 use crate::frames::ping_frame;
+use crate::pair::{KeyedNode, listen, stopped};
 use ln_channel::Command;
-use ln_demo::{KEYS, POLICY, SHORT_IDS, TXIDS, fit_config};
-use ln_hooks::{Call, ChannelEvent, Hook, HookTable, Verdict};
+use ln_demo::{KEYS, POLICY, SHORT_IDS, TXIDS};
+use ln_hooks::{Call, ChannelEvent, Hook, Verdict};
 use ln_keys::{ChannelKeys, Signed, ToyKeys, ToyOnion, View};
 use ln_msgs::Refusal;
-use ln_node::{Node, Notice};
-use ln_store::MemoryStore;
+use ln_node::{Node, Notice, Table};
+use ln_store::RecordStore;
 use std::alloc::Global;
-use std::net::{SocketAddr, TcpListener, TcpStream};
+use std::net::{Net, SocketAddr, TcpListener, TcpStream};
 use std::sync::atomic::{AtomicU64, Ordering};
 use std::sync::{Arc, Wait};
+use std::thread::Threads;
 use std::time::Duration;
 use std::{io, thread};
 
 /// How often a thread tries again, until it gives up.
 const TURNS: u64 = 1_000_000;
 
-type Flag = Arc<AtomicU64>;
-
-fn flag(alloc: Global) -> io::Result<Flag> {
-    Ok(Arc::new(alloc, AtomicU64::new(0))?)
+/// By which two threads meet, and how many of them have seen the other.
+#[derive(Drop)]
+struct Flags {
+    first: AtomicU64,
+    second: AtomicU64,
+    seen: AtomicU64,
 }
 
-fn failed() -> io::Error {
-    io::Error::from(io::ErrorKind::Other)
-}
-
-// Waits for a flag, and says whether it was set.
-fn wait_for(flag: &AtomicU64) -> bool {
+// Waits until a count is so high. False where that doesn't come about.
+fn wait_until(count: &AtomicU64, wanted: u64) -> bool {
     for _ in 0..TURNS {
-        if flag.load(Ordering::SeqCst) != 0 {
+        if count.load(Ordering::SeqCst) >= wanted {
             return true;
         }
         thread::yield_now();
@@ -40,196 +40,243 @@ fn wait_for(flag: &AtomicU64) -> bool {
     false
 }
 
-// Sets a flag, waits for the other's, and tells that it saw it.
-fn meet(own: &AtomicU64, other: &AtomicU64, seen: &AtomicU64) {
-    own.store(1, Ordering::SeqCst);
-    if wait_for(other) {
-        seen.fetch_add(1, Ordering::SeqCst);
-    }
-}
-
-// Waits until so many have told that they saw something.
-fn wait_until(seen: &AtomicU64, count: u64) -> bool {
-    for _ in 0..TURNS {
-        if seen.load(Ordering::SeqCst) >= count {
-            return true;
+impl Flags {
+    fn new() -> Flags {
+        Flags {
+            first: AtomicU64::new(0),
+            second: AtomicU64::new(0),
+            seen: AtomicU64::new(0),
         }
-        thread::yield_now();
     }
-    false
+
+    // One of both sets its flag, waits for the other's, and tells that it saw it.
+    fn meet(&self, is_first: bool) {
+        let (own, other) = if is_first {
+            (&self.first, &self.second)
+        } else {
+            (&self.second, &self.first)
+        };
+        own.store(1, Ordering::SeqCst);
+        if wait_until(other, 1) {
+            self.seen.fetch_add(1, Ordering::SeqCst);
+        }
+    }
 }
 
-fn loopback() -> SocketAddr {
-    SocketAddr::from(([127, 0, 0, 1], 0))
+// A hook that meets another thread.
+fn meeter(alloc: Global, flags: &Arc<Flags>, is_first: bool) -> io::Result<Hook> {
+    let flags = Arc::try_clone(flags)?;
+    let call: Call = Box::new(alloc, move |_event: &ChannelEvent| -> Verdict {
+        flags.meet(is_first);
+        Verdict::Continue
+    })?;
+    Ok(Hook::new(call))
+}
+
+// A node beside where it listens for two channels. Generic in the node, however deep that is.
+fn both<T: Drop>(
+    node: T,
+    one: Result<SocketAddr, Refusal>,
+    two: Result<SocketAddr, Refusal>,
+) -> io::Result<(T, [SocketAddr; 2])> {
+    match (one, two) {
+        (Ok(one), Ok(two)) => Ok((node, [one, two])),
+        _ => Err(failed()),
+    }
 }
 
 // A node that listens twice, and where.
-fn listens<K, R>(
-    rt: R,
-    alloc: Global,
-    keys: [K; 2],
-) -> io::Result<
-    (
-        Node<K, MemoryStore, ToyOnion, Hook, HookTable>,
-        [SocketAddr; 2],
-    ),
->
+fn listens<K, R>(rt: R, alloc: Global, keys: [K; 2]) -> io::Result<(KeyedNode<K>, [SocketAddr; 2])>
 where
     K: ChannelKeys + Copy + Send + 'static,
-    R: std::net::Net<Listener = TcpListener, Stream = TcpStream>
-        + std::thread::Threads
-        + Wait
-        + Copy
-        + Send
-        + 'static,
+    R: Net<Listener = TcpListener, Stream = TcpStream> + Threads + Wait + Copy + Send + 'static,
 {
     let Ok(mut node) = Node::new(alloc, ToyOnion, POLICY) else {
         return Err(failed());
     };
     let [first, second] = keys;
-    let one = listen(rt, alloc, &mut node, first)?;
-    let two = listen(rt, alloc, &mut node, second)?;
-    Ok((node, [one, two]))
+    let one = listen(rt, alloc, &mut node, first);
+    let two = listen(rt, alloc, &mut node, second);
+    both(node, one, two)
 }
 
-fn listen<K, R>(
-    rt: R,
+/// A node that listens twice, as a test drives it. Which stores, hooks and tables it has is said in the tests alone:
+/// what is generic is proved quickly.
+#[derive(Drop)]
+struct Trial<'a, K: ChannelKeys + Copy, S: Drop, H: Drop, T: Drop, R> {
+    rt: &'a R,
     alloc: Global,
-    node: &mut Node<K, MemoryStore, ToyOnion, Hook, HookTable>,
-    keys: K,
-) -> io::Result<SocketAddr>
-where
-    K: ChannelKeys + Copy + Send + 'static,
-    R: std::net::Net<Listener = TcpListener, Stream = TcpStream>
-        + std::thread::Threads
-        + Wait
-        + Copy
-        + Send
-        + 'static,
-{
-    let Ok(config) = fit_config(alloc) else {
-        return Err(failed());
-    };
-    let store = MemoryStore::new(alloc);
-    let table = HookTable::new(alloc);
-    node.listen(rt, alloc, keys, config, store, table, loopback())
-        .map_err(|_| failed())
+    node: &'a Node<K, S, ToyOnion, H, T>,
+    at: [SocketAddr; 2],
 }
 
-// Has an end of a node do this.
-fn order<K, R: Wait>(
-    rt: &R,
-    node: &Node<K, MemoryStore, ToyOnion, Hook, HookTable>,
-    channel: usize,
-    command: Command,
-) -> io::Result<()>
+impl<K, S, H, T, R> Trial<'_, K, S, H, T, R>
 where
     K: ChannelKeys + Copy + Send + 'static,
+    S: RecordStore + Drop + Send + 'static,
+    H: Drop + Send + 'static,
+    T: Table<H> + Drop + Send + 'static,
+    R: Net<Listener = TcpListener, Stream = TcpStream> + Wait,
 {
-    match node.order(rt, channel, command) {
-        Ok(()) => Ok(()),
-        Err(command) => {
-            drop(command);
-            Err(failed())
+    // A client of one of its channels, which begins to open that.
+    fn client(&self, txid: [u8; 32], address: SocketAddr) -> io::Result<Box<Client>> {
+        let [keys, _, _, _] = KEYS;
+        Client::connect(self.rt, self.alloc, keys, txid, address)
+    }
+
+    // A channel of the node has this hook.
+    fn register(&self, channel: usize, hook: H) -> io::Result<()> {
+        match self.node.register_hook(self.rt, channel, hook) {
+            Ok(()) => Ok(()),
+            Err(hook) => {
+                drop(hook);
+                Err(failed())
+            }
         }
+    }
+
+    // An end of the node does this.
+    fn order(&self, channel: usize, command: Command) -> io::Result<()> {
+        match self.node.order(self.rt, channel, command) {
+            Ok(()) => Ok(()),
+            Err(command) => {
+                drop(command);
+                Err(failed())
+            }
+        }
+    }
+
+    // Opens a channel of the node with a client, up to both being ready; then the client offers an HTLC and signs, and
+    // has what the node's end revokes by.
+    fn offer(&self, channel: usize, client: &mut Client) -> io::Result<()> {
+        let [id, _] = SHORT_IDS;
+        let alloc = self.alloc;
+        // init and accept_channel; then funding_signed; then channel_ready; then revoke_and_ack
+        client.take(alloc, 2)?;
+        client.take(alloc, 1)?;
+        self.order(channel, Command::Confirm(id))?;
+        client.order(alloc, Command::Confirm(id))?;
+        client.take(alloc, 1)?;
+        let add = Command::Add {
+            amount: 5000,
+            hash: [7; 32],
+            expiry: 400,
+            onion: [0; 1366],
+            origin: None,
+        };
+        client.order(alloc, add)?;
+        client.order(alloc, Command::Sign)?;
+        client.take(alloc, 1)
+    }
+
+    // The same, and the node's end signs it too.
+    fn commit(&self, channel: usize, client: &mut Client) -> io::Result<()> {
+        self.offer(channel, client)?;
+        self.order(channel, Command::Sign)?;
+        client.take(self.alloc, 1)
+    }
+
+    // A ping comes while a hook waits: the type of what answers it, what the hook had seen by then, and whether it
+    // sees the flag that is set after that.
+    fn pings(&self, hook: H, flags: &Flags) -> io::Result<(u16, u64, bool)> {
+        self.register(0, hook)?;
+        let mut client = self.client(TXIDS[0], self.at[0])?;
+        self.commit(0, &mut client)?;
+        client.send(&ping_frame())?;
+        let typ = client.receive(self.alloc)?;
+        let seen = flags.seen.load(Ordering::SeqCst);
+        flags.second.store(1, Ordering::SeqCst);
+        Ok((typ, seen, wait_until(&flags.seen, 1)))
+    }
+
+    // The hooks of both channels are called: whether they meet.
+    fn hooks_meet(&self, one: H, two: H, flags: &Flags) -> io::Result<bool> {
+        self.register(0, one)?;
+        self.register(1, two)?;
+        let mut first = self.client(TXIDS[0], self.at[0])?;
+        self.commit(0, &mut first)?;
+        let mut second = self.client(TXIDS[1], self.at[1])?;
+        self.commit(1, &mut second)?;
+        Ok(wait_until(&flags.seen, 2))
+    }
+
+    // Both ends of the node sign: how many of them have met the other.
+    fn workers_meet(&self, flags: &Flags) -> io::Result<u64> {
+        let mut first = self.client(TXIDS[0], self.at[0])?;
+        self.offer(0, &mut first)?;
+        let mut second = self.client(TXIDS[1], self.at[1])?;
+        self.offer(1, &mut second)?;
+        self.order(0, Command::Sign)?;
+        self.order(1, Command::Sign)?;
+        first.take(self.alloc, 1)?;
+        second.take(self.alloc, 1)?;
+        Ok(flags.seen.load(Ordering::SeqCst))
+    }
+
+    // The failure of an HTLC is lost with its connection, and over the next one the client only greets: the types of
+    // what it is told, and whether a command was refused as there is no connection.
+    fn falls_silent(&self) -> io::Result<([u16; 3], bool)> {
+        let mut client = self.client(TXIDS[0], self.at[0])?;
+        self.commit(0, &mut client)?;
+        let failure = client.receive(self.alloc)?;
+        client.connect_again(self.rt, self.at[0])?;
+        let greeting = client.receive(self.alloc)?;
+        let next = client.receive(self.alloc)?;
+        AtomicU64::new(0).park_timeout(self.rt, 0, Duration::from_millis(200));
+        let notices = self.node.notices(self.rt, self.alloc);
+        Ok((
+            [failure, greeting, next],
+            is_any_disconnected(notices.as_slice()),
+        ))
     }
 }
 
-// Opens a channel of a node with a client, up to both being ready; then the client offers an HTLC and signs, and has
-// what the node's end revokes by.
-fn offer<K, R: Wait>(
-    rt: &R,
-    alloc: Global,
-    node: &Node<K, MemoryStore, ToyOnion, Hook, HookTable>,
-    channel: usize,
-    client: &mut Client,
-) -> io::Result<()>
-where
-    K: ChannelKeys + Copy + Send + 'static,
-{
-    let [id, _] = SHORT_IDS;
-    // init and accept_channel; then funding_signed; then channel_ready; then revoke_and_ack
-    client.take(alloc, 2)?;
-    client.take(alloc, 1)?;
-    order(rt, node, channel, Command::Confirm(id))?;
-    client.order(alloc, Command::Confirm(id))?;
-    client.take(alloc, 1)?;
-    let add = Command::Add {
-        amount: 5000,
-        hash: [7; 32],
-        expiry: 400,
-        onion: [0; 1366],
-        origin: None,
-    };
-    client.order(alloc, add)?;
-    client.order(alloc, Command::Sign)?;
-    client.take(alloc, 1)
+// Whether a command was refused as there is no connection.
+fn is_any_disconnected(notices: &[(usize, Notice)]) -> bool {
+    for (_, notice) in notices {
+        if let Notice::Refused(Refusal::Disconnected) = notice {
+            return true;
+        }
+    }
+    false
 }
 
 #[test]
 fn ping_beside_hook(rt: HostRuntime) -> io::Result<()> {
     let alloc = rt.alloc();
-    let [client_keys, node_keys, _, _] = KEYS;
-    let answered = flag(alloc)?;
-    let seen = flag(alloc)?;
-    let (theirs, told) = (Arc::try_clone(&answered)?, Arc::try_clone(&seen)?);
-    let call: Call = Box::new(alloc, move |_event: &ChannelEvent| -> Verdict {
-        if wait_for(&theirs) {
-            told.store(1, Ordering::SeqCst);
-        }
-        Verdict::Continue
-    })?;
-    let (node, [address, _]) = listens(rt, alloc, [node_keys, node_keys])?;
-    assert!(rt; node.register_hook(&rt, 0, Hook::new(call)).is_ok());
-    let mut client = Client::connect(&rt, alloc, client_keys, TXIDS[0], address)?;
-    offer(&rt, alloc, &node, 0, &mut client)?;
-    order(&rt, &node, 0, Command::Sign)?;
-    client.take(alloc, 1)?;
-    client.send(&ping_frame())?;
-    assert_eq!(rt; client.receive(alloc)?, 19);
-    assert_eq!(rt; seen.load(Ordering::SeqCst), 0);
-    answered.store(1, Ordering::SeqCst);
-    assert!(rt; wait_for(&seen));
-    node.stop(rt);
+    let [_, keys, _, _] = KEYS;
+    let flags = Arc::new(alloc, Flags::new())?;
+    let hook = meeter(alloc, &flags, true)?;
+    let (node, at) = listens(rt, alloc, [keys, keys])?;
+    let told = Trial {
+        rt: &rt,
+        alloc,
+        node: &node,
+        at,
+    }
+    .pings(hook, &flags);
+    stopped(rt, node);
+    assert_eq!(rt; told?, (19, 0, true));
     Ok(())
 }
 
 #[test]
 fn hooks_run_beside(rt: HostRuntime) -> io::Result<()> {
     let alloc = rt.alloc();
-    let [client_keys, node_keys, _, _] = KEYS;
-    let (one, two, seen) = (flag(alloc)?, flag(alloc)?, flag(alloc)?);
-    let (own, other, tells) = (
-        Arc::try_clone(&one)?,
-        Arc::try_clone(&two)?,
-        Arc::try_clone(&seen)?,
-    );
-    let first: Call = Box::new(alloc, move |_event: &ChannelEvent| -> Verdict {
-        meet(&own, &other, &tells);
-        Verdict::Continue
-    })?;
-    let (own, other, tells) = (
-        Arc::try_clone(&two)?,
-        Arc::try_clone(&one)?,
-        Arc::try_clone(&seen)?,
-    );
-    let second: Call = Box::new(alloc, move |_event: &ChannelEvent| -> Verdict {
-        meet(&own, &other, &tells);
-        Verdict::Continue
-    })?;
-    let (node, [at_one, at_two]) = listens(rt, alloc, [node_keys, node_keys])?;
-    assert!(rt; node.register_hook(&rt, 0, Hook::new(first)).is_ok());
-    assert!(rt; node.register_hook(&rt, 1, Hook::new(second)).is_ok());
-    let mut client = Client::connect(&rt, alloc, client_keys, TXIDS[0], at_one)?;
-    offer(&rt, alloc, &node, 0, &mut client)?;
-    order(&rt, &node, 0, Command::Sign)?;
-    client.take(alloc, 1)?;
-    let mut client = Client::connect(&rt, alloc, client_keys, TXIDS[1], at_two)?;
-    offer(&rt, alloc, &node, 1, &mut client)?;
-    order(&rt, &node, 1, Command::Sign)?;
-    client.take(alloc, 1)?;
-    assert!(rt; wait_until(&seen, 2));
-    node.stop(rt);
+    let [_, keys, _, _] = KEYS;
+    let flags = Arc::new(alloc, Flags::new())?;
+    let one = meeter(alloc, &flags, true)?;
+    let two = meeter(alloc, &flags, false)?;
+    let (node, at) = listens(rt, alloc, [keys, keys])?;
+    let told = Trial {
+        rt: &rt,
+        alloc,
+        node: &node,
+        at,
+    }
+    .hooks_meet(one, two, &flags);
+    stopped(rt, node);
+    assert!(rt; told?);
     Ok(())
 }
 
@@ -237,15 +284,16 @@ fn hooks_run_beside(rt: HostRuntime) -> io::Result<()> {
 #[derive(Clone, Copy)]
 struct WaitingKeys {
     toy: ToyKeys,
-    own: &'static AtomicU64,
-    other: &'static AtomicU64,
-    seen: &'static AtomicU64,
+    flags: &'static Flags,
+    is_first: bool,
 }
 
-// A flag that stays for good.
-fn lasting(alloc: Global) -> io::Result<&'static AtomicU64> {
-    let flag: &'static mut AtomicU64 = Box::leak(Box::new(alloc, AtomicU64::new(0))?);
-    Ok(flag)
+fn waiting(toy: ToyKeys, flags: &'static Flags, is_first: bool) -> WaitingKeys {
+    WaitingKeys {
+        toy,
+        flags,
+        is_first,
+    }
 }
 
 impl ChannelKeys for WaitingKeys {
@@ -269,7 +317,7 @@ impl ChannelKeys for WaitingKeys {
         view: &View,
     ) -> Result<Signed, Refusal> {
         if number == 1 {
-            meet(self.own, self.other, self.seen);
+            self.flags.meet(self.is_first);
         }
         self.toy.sign(alloc, number, peer_point, view)
     }
@@ -301,65 +349,38 @@ impl ChannelKeys for WaitingKeys {
 #[test]
 fn workers_run_beside(rt: HostRuntime) -> io::Result<()> {
     let alloc = rt.alloc();
-    let [client_keys, toy, _, _] = KEYS;
-    let (one, two, seen) = (lasting(alloc)?, lasting(alloc)?, lasting(alloc)?);
-    let keys = [
-        WaitingKeys {
-            toy,
-            own: one,
-            other: two,
-            seen,
-        },
-        WaitingKeys {
-            toy,
-            own: two,
-            other: one,
-            seen,
-        },
-    ];
-    let (node, [at_one, at_two]) = listens(rt, alloc, keys)?;
-    let mut first = Client::connect(&rt, alloc, client_keys, TXIDS[0], at_one)?;
-    offer(&rt, alloc, &node, 0, &mut first)?;
-    let mut second = Client::connect(&rt, alloc, client_keys, TXIDS[1], at_two)?;
-    offer(&rt, alloc, &node, 1, &mut second)?;
-    order(&rt, &node, 0, Command::Sign)?;
-    order(&rt, &node, 1, Command::Sign)?;
-    first.take(alloc, 1)?;
-    second.take(alloc, 1)?;
-    assert_eq!(rt; seen.load(Ordering::SeqCst), 2);
-    node.stop(rt);
-    Ok(())
-}
-
-// Whether a command was refused as there is no connection.
-fn is_any_disconnected(notices: &[(usize, Notice)]) -> bool {
-    for (_, notice) in notices {
-        if let Notice::Refused(Refusal::Disconnected) = notice {
-            return true;
-        }
+    let [_, toy, _, _] = KEYS;
+    let flags: &'static mut Flags = Box::leak(Box::new(alloc, Flags::new())?);
+    let flags: &'static Flags = flags;
+    let keys = [waiting(toy, flags, true), waiting(toy, flags, false)];
+    let (node, at) = listens(rt, alloc, keys)?;
+    let told = Trial {
+        rt: &rt,
+        alloc,
+        node: &node,
+        at,
     }
-    false
+    .workers_meet(flags);
+    stopped(rt, node);
+    assert_eq!(rt; told?, 2);
+    Ok(())
 }
 
 // The book's failure of an HTLC waits for a peer that has greeted and says no more: nobody is told of it.
 #[test]
 fn waits_for_a_silent_peer(rt: HostRuntime) -> io::Result<()> {
     let alloc = rt.alloc();
-    let [client_keys, node_keys, _, _] = KEYS;
-    let (node, [address, _]) = listens(rt, alloc, [node_keys, node_keys])?;
-    let mut client = Client::connect(&rt, alloc, client_keys, TXIDS[0], address)?;
-    offer(&rt, alloc, &node, 0, &mut client)?;
-    order(&rt, &node, 0, Command::Sign)?;
-    client.take(alloc, 1)?;
-    // update_fail_malformed_htlc, which isn't signed: it is lost with the connection
-    assert_eq!(rt; client.receive(alloc)?, 135);
-    client.connect_again(&rt, address)?;
-    // init and channel_reestablish
-    assert_eq!(rt; client.receive(alloc)?, 16);
-    assert_eq!(rt; client.receive(alloc)?, 136);
-    AtomicU64::new(0).park_timeout(&rt, 0, Duration::from_millis(200));
-    let notices = node.notices(&rt, alloc);
-    assert!(rt; !is_any_disconnected(notices.as_slice()));
-    node.stop(rt);
+    let [_, keys, _, _] = KEYS;
+    let (node, at) = listens(rt, alloc, [keys, keys])?;
+    let told = Trial {
+        rt: &rt,
+        alloc,
+        node: &node,
+        at,
+    }
+    .falls_silent();
+    stopped(rt, node);
+    // update_fail_malformed_htlc, which isn't signed: it is lost with the connection; init and channel_reestablish
+    assert_eq!(rt; told?, ([135, 16, 136], false));
     Ok(())
 }

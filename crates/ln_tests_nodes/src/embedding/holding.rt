@@ -3,8 +3,8 @@
 
 ghost use Rattle.std.specs.Prelude.{◌≤◌};
 
-use super::{ToyNode, nodes, payment};
-use crate::pair::{loopback, wait_for_use};
+use super::{nodes, payment};
+use crate::pair::{ToyNode, loopback, stopped, wait_for_use};
 use ln_channel::Command;
 use ln_demo::{KEYS, POLICY, TXIDS};
 use ln_hooks::{Call, ChannelEvent, FailureCode, Hook, HookTable, How, Verdict};
@@ -334,14 +334,6 @@ where
     Ok(())
 }
 
-/// Stops a node. The checker shows here that hooks and tables may go to other threads: in a long function it gives up.
-fn stopped<R>(rt: R, node: ToyNode)
-where
-    R: Net<Listener = TcpListener, Stream = TcpStream> + Threads + Wait + Copy + Send + 'static,
-{
-    node.stop(rt);
-}
-
 /// The payee starts again from its store, and goes on.
 fn restarts<R>(
     rt: R,
@@ -382,7 +374,7 @@ where
         + 'static,
 {
     let outcomes = Outcomes::new(alloc)?;
-    let (payer, payee) = nodes(rt, alloc)?;
+    let (payee, payer) = nodes(rt, alloc)?;
     let begun = begins(&rt, alloc, &payer, &payee, &outcomes);
     let done = restarts(rt, alloc, &payer, payee, &outcomes);
     stopped(rt, payer);
