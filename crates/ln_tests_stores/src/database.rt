@@ -10,7 +10,7 @@ use sqlite_disk::{Disk, Fuse, Memory};
 use std::alloc::Global;
 
 /// A file, and after how many calls it fails.
-#[derive(Clone, Copy, Debug, PartialEq, Eq)]
+#[derive(Clone, Copy)]
 pub struct Stop {
     pub in_log: bool,
     pub calls: u64,

@@ -321,25 +321,15 @@ const CLOSES: [Shown; 6] = [
 ];
 
 #[test]
-fn over_a_save_that_fails_in_memory(rt: HostRuntime) {
-    for row in &PAYMENTS {
-        let told = is_shown(rt.alloc(), Over::Memory, Play::Payment, row);
-        assert_eq!(rt; told, Ok((true, true)), "payment, {}", row.1);
-    }
-    for row in &CLOSES {
-        let told = is_shown(rt.alloc(), Over::Memory, Play::Close, row);
-        assert_eq!(rt; told, Ok((true, true)), "close, {}", row.1);
-    }
-}
-
-#[test]
-fn over_a_save_that_fails_in_databases(rt: HostRuntime) {
-    for row in &PAYMENTS {
-        let told = is_shown(rt.alloc(), Over::Databases, Play::Payment, row);
-        assert_eq!(rt; told, Ok((true, true)), "payment, {}", row.1);
-    }
-    for row in &CLOSES {
-        let told = is_shown(rt.alloc(), Over::Databases, Play::Close, row);
-        assert_eq!(rt; told, Ok((true, true)), "close, {}", row.1);
+fn over_a_save_that_fails(rt: HostRuntime) {
+    for over in [Over::Memory, Over::Databases] {
+        for row in &PAYMENTS {
+            let told = is_shown(rt.alloc(), over, Play::Payment, row);
+            assert_eq!(rt; told, Ok((true, true)), "payment, {}", row.1);
+        }
+        for row in &CLOSES {
+            let told = is_shown(rt.alloc(), over, Play::Close, row);
+            assert_eq!(rt; told, Ok((true, true)), "close, {}", row.1);
+        }
     }
 }

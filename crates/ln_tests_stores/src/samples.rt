@@ -7,7 +7,7 @@ use ln_store::RecordStore;
 use std::alloc::Global;
 
 /// A record of so many bytes of one value, under an id of 32 bytes of one value.
-#[derive(Clone, Copy, Debug, PartialEq, Eq)]
+#[derive(Clone, Copy)]
 pub struct Sample {
     pub id: u8,
     pub len: usize,

@@ -317,36 +317,22 @@ fn stops_of(alloc: Global, case: &Case) -> Result<[(u64, Option<u64>); 2], Refus
 // A commit writes its pages behind the log, syncs it, writes the byte that makes them count, and syncs it again: at
 // least four calls of the log. A log that is copied into the database file writes that and syncs it: at least two.
 #[test]
-fn save_that_replaces(rt: HostRuntime) -> Result<(), Refusal> {
-    let told = stops_of(rt.alloc(), &REPLACES)?;
-    assert!(rt; are_lawful(&told, (4, 0)), "{told:?}");
-    Ok(())
-}
-
-#[test]
-fn save_with_a_checkpoint(rt: HostRuntime) -> Result<(), Refusal> {
-    let told = stops_of(
-        rt.alloc(),
-        &Case {
-            frames: 2,
-            ..REPLACES
-        },
-    )?;
-    assert!(rt; are_lawful(&told, (4, 2)), "{told:?}");
-    Ok(())
-}
-
-#[test]
-fn save_that_grows(rt: HostRuntime) -> Result<(), Refusal> {
-    let told = stops_of(rt.alloc(), &GROWS)?;
-    assert!(rt; are_lawful(&told, (4, 0)), "{told:?}");
-    Ok(())
-}
-
-#[test]
-fn save_that_begins(rt: HostRuntime) -> Result<(), Refusal> {
-    let told = stops_of(rt.alloc(), &BEGINS)?;
-    assert!(rt; are_lawful(&told, (4, 0)), "{told:?}");
+fn saves(rt: HostRuntime) -> Result<(), Refusal> {
+    for (case, least) in [
+        (REPLACES, (4, 0)),
+        (
+            Case {
+                frames: 2,
+                ..REPLACES
+            },
+            (4, 2),
+        ),
+        (GROWS, (4, 0)),
+        (BEGINS, (4, 0)),
+    ] {
+        let told = stops_of(rt.alloc(), &case)?;
+        assert!(rt; are_lawful(&told, least), "{told:?}");
+    }
     Ok(())
 }
 

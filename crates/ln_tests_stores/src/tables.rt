@@ -156,24 +156,19 @@ const ID: [u8; 32] = [7; 32];
 /// The row that stands beside each.
 const BESIDE: Row = (ValueRef::Blob(&[8; 32]), ValueRef::Blob(&[1]));
 
+// Rows that no store has, and one that a store has.
 #[test]
-fn other_rows(rt: HostRuntime) -> Result<(), Fail> {
-    for row in [
-        (ValueRef::Blob(&ID[1..]), ValueRef::Blob(&[1])),
-        (ValueRef::Text(b"seven"), ValueRef::Blob(&[1])),
-        (ValueRef::Null, ValueRef::Blob(&[1])),
-        (ValueRef::Int(7), ValueRef::Blob(&[1])),
-        (ValueRef::Blob(&ID), ValueRef::Text(b"one")),
-        (ValueRef::Blob(&ID), ValueRef::Int(1)),
+fn rows(rt: HostRuntime) -> Result<(), Fail> {
+    for (id, body, refused) in [
+        (ValueRef::Blob(&ID[1..]), ValueRef::Blob(&[1]), true),
+        (ValueRef::Text(b"seven"), ValueRef::Blob(&[1]), true),
+        (ValueRef::Null, ValueRef::Blob(&[1]), true),
+        (ValueRef::Int(7), ValueRef::Blob(&[1]), true),
+        (ValueRef::Blob(&ID), ValueRef::Text(b"one"), true),
+        (ValueRef::Blob(&ID), ValueRef::Int(1), true),
+        (ValueRef::Blob(&ID), ValueRef::Blob(&[1]), false),
     ] {
-        assert!(rt; is_so_in_memory(rt.alloc(), &[TABLE], &[BESIDE, row], true)?);
+        assert!(rt; is_so_in_memory(rt.alloc(), &[TABLE], &[BESIDE, (id, body)], refused)?);
     }
-    Ok(())
-}
-
-#[test]
-fn own_table(rt: HostRuntime) -> Result<(), Fail> {
-    let row = (ValueRef::Blob(&ID), ValueRef::Blob(&[1]));
-    assert!(rt; is_so_in_memory(rt.alloc(), &[TABLE], &[BESIDE, row], false)?);
     Ok(())
 }
