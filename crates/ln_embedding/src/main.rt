@@ -9,11 +9,15 @@ use ln_hooks::{Call, ChannelEvent, Hook, HookTable, How, Verdict};
 use ln_keys::{ToyKeys, ToyOnion, sha256_32};
 use ln_log::Limits;
 use ln_msgs::{Records, Refusal};
-use ln_node::{Answer, ChannelState, Node, Notice, Signing, Table};
+use ln_node::{Answer, ChannelState, Node, Signing, Table};
 use ln_store::RecordStore;
+use ln_trace::{LoggedStore, log_trace};
+use log::sink::Console;
+use log::{Level, Log, Logged};
 use std::alloc::Global;
 use std::net::{Net, SocketAddr, TcpListener, TcpStream};
 use std::process::ExitCode;
+use std::rt::Clock;
 use std::sync::atomic::{AtomicU64, Ordering};
 use std::sync::{Arc, Wait};
 use std::thread;
@@ -44,6 +48,9 @@ const SECRET: [u8; 32] = [8; 32];
 
 /// What is paid, in millisatoshi.
 const AMOUNT: u64 = 70_000;
+
+/// How many steps of a node are kept until they are logged.
+const STEPS: u64 = 10_000;
 
 /// Where the funding output stands on the chain.
 const PLACE: ShortId = ShortId {
@@ -152,7 +159,13 @@ where
     S: RecordStore + Drop + Send + 'static,
     H: Drop + Send + 'static,
     T: Table<H> + Drop + Send + 'static,
-    R: Net<Listener = TcpListener, Stream = TcpStream> + Threads + Wait + Copy + Send + 'static,
+    R: Net<Listener = TcpListener, Stream = TcpStream>
+        + Threads
+        + Wait
+        + Log
+        + Copy
+        + Send
+        + 'static,
 {
     fn new(rt: R, host: &'a HostRuntime) -> Result<Nodes<'a, S, H, T, R>, Refusal> {
         Ok(Nodes {
@@ -167,6 +180,8 @@ where
     fn open(&mut self, stores: (S, S), tables: (T, T)) -> Result<(), Refusal> {
         self.payer.set_signing(Signing::WhenIdle);
         self.payee.set_signing(Signing::WhenIdle);
+        self.payer.trace(STEPS);
+        self.payee.trace(STEPS);
         let (rt, alloc) = (self.rt, self.host.alloc());
         let (of_payer, of_payee) = stores;
         let (payers, payees) = tables;
@@ -231,13 +246,10 @@ where
         Err(Refusal::GaveUp)
     }
 
-    /// Tells what has become of a node's channels, but for orders that came to nothing.
-    fn notify(&self, name: &str, node: &MyNode<S, H, T>) {
-        for (channel, notice) in node.notices(&self.rt, self.host.alloc()) {
-            if !matches!(notice, Notice::OrderRefused(..)) {
-                let _ = eprintln!(self.host; "{name} {channel}: {notice:?}");
-            }
-        }
+    /// Logs what a node has done.
+    fn report(&self, name: &str, node: &MyNode<S, H, T>) {
+        let trace = node.traced(&self.rt, self.host.alloc());
+        log_trace(&self.rt.span(name), &trace);
     }
 
     /// Opens the channel, pays, and stops both nodes.
@@ -253,8 +265,8 @@ where
         if done.is_ok() {
             done = self.pay(paid);
         }
-        self.notify("payer", &self.payer);
-        self.notify("payee", &self.payee);
+        self.report("payer", &self.payer);
+        self.report("payee", &self.payee);
         let Nodes {
             rt,
             payer,
@@ -280,16 +292,29 @@ where
     S: RecordStore + Drop + Send + 'static,
     H: Drop + Send + 'static,
     T: Table<H> + Drop + Send + 'static,
-    R: Net<Listener = TcpListener, Stream = TcpStream> + Threads + Wait + Copy + Send + 'static,
+    R: Net<Listener = TcpListener, Stream = TcpStream>
+        + Threads
+        + Wait
+        + Log
+        + Copy
+        + Send
+        + 'static,
 {
     let nodes: Nodes<'_, S, H, T, R> = Nodes::new(rt, host)?;
     nodes.play(stores, tables, hook, paid)
 }
 
-/// Records in two files, and a hook that counts the payer's payments once they are fulfilled.
+/// Records in two files, whose saves are logged, and a hook that counts the payer's payments once they are fulfilled.
 fn begin<R>(rt: R, host: &HostRuntime) -> Result<(), Refusal>
 where
-    R: Net<Listener = TcpListener, Stream = TcpStream> + Threads + Wait + Copy + Send + 'static,
+    R: Net<Listener = TcpListener, Stream = TcpStream>
+        + Threads
+        + Wait
+        + Log
+        + Clock
+        + Copy
+        + Send
+        + 'static,
 {
     let alloc = host.alloc();
     let paid = Arc::new(alloc, AtomicU64::new(0))?;
@@ -304,10 +329,10 @@ where
         }
         Verdict::Continue
     })?;
-    let payers = FileRecords::open(host, "payer.db")?;
-    let payees = FileRecords::open(host, "payee.db")?;
+    let payers = LoggedStore::new(FileRecords::open(host, "payer.db")?, rt);
+    let payees = LoggedStore::new(FileRecords::open(host, "payee.db")?, rt);
     let tables = (HookTable::new(alloc), HookTable::new(alloc));
-    run::<FileRecords, Hook, HookTable, R>(
+    run::<LoggedStore<FileRecords, R>, Hook, HookTable, R>(
         rt,
         host,
         (payers, payees),
@@ -317,8 +342,10 @@ where
     )
 }
 
+/// Logs on the standard error; with `Level::Trace` it logs messages, too.
 fn main(rt: HostRuntime) -> ExitCode {
-    match begin(rt, &rt) {
+    let logged = Logged::new(rt, Level::Debug, Console(rt));
+    match begin(logged, &rt) {
         Ok(()) => {
             let _ = println!(&rt; "paid {AMOUNT}");
             ExitCode::SUCCESS

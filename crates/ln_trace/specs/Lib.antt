@@ -1,0 +1,3 @@
+pub mod Saves
+pub mod Steps
+pub mod Stores

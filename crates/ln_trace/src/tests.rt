@@ -1,0 +1,136 @@
+//! What is logged, line by line.
+
+use crate::{LoggedStore, log_trace};
+use ln_bytes::Fault;
+use ln_msgs::Refusal;
+use ln_node::{Notice, Step, Trace};
+use ln_store::{MemoryStore, RecordStore};
+use log::filter::{Builder, FilteredLog};
+use log::sink::{Lines, Memory};
+use log::{Level, Logged};
+use std::alloc::{AllocError, Global};
+use std::cell::Cell;
+use std::io;
+use std::process::Abort;
+use std::rt::Clock;
+use std::test::Fail;
+use std::time::Duration;
+
+fn expect(rt: &impl Abort, lines: Lines, expected: &[&str]) {
+    assert_eq!(rt; lines.len(), expected.len());
+    for (line, text) in lines.as_slice().iter().zip(expected) {
+        assert!(rt; line.as_str() == *text, "{line:?} is not {text:?}");
+    }
+}
+
+// A step of each kind.
+fn trace(alloc: Global) -> Result<Trace, AllocError> {
+    let ready = String::from_str(alloc, "type 36 channel_ready\nchannel_id 09\n")?;
+    let fee = String::from_str(alloc, "type 134 update_fee\n")?;
+    let mut steps = Vec::new(alloc);
+    steps.push((0, Step::Took(ready)))?;
+    steps.push((1, Step::Sent(fee)))?;
+    steps.push((1, Step::Saved(512, Ok(()))))?;
+    steps.push((1, Step::Saved(513, Err(Refusal::Store))))?;
+    let notices = [
+        Notice::Ended(Ok(())),
+        Notice::Ended(Err(Fault::Io)),
+        Notice::NoInit,
+        Notice::Refused(Refusal::SignatureWrong),
+        Notice::OrderRefused(3, Refusal::NotReady),
+        Notice::Halted,
+        Notice::Loaded,
+        Notice::Held(7),
+    ];
+    for notice in notices {
+        steps.push((0, Step::Noticed(notice)))?;
+    }
+    Ok(Trace { steps, lost: 2 })
+}
+
+#[test]
+fn each_step_is_a_line(rt: HostRuntime) -> Result<(), Fail> {
+    let sink = Memory::new(rt.alloc());
+    log_trace(&sink, &trace(rt.alloc())?);
+    let expected = [
+        "[TRACE lnlink::message] took channel=0 message=type 36 channel_ready, channel_id 09",
+        "[TRACE lnlink::message] sent channel=1 message=type 134 update_fee",
+        "[DEBUG lnlink::save] saved channel=1 bytes=512",
+        "[WARN  lnlink::save] save refused channel=1 bytes=513 error=61",
+        "[INFO  lnlink::notice] connection ended channel=0",
+        "[INFO  lnlink::notice] connection ended channel=0 error=63",
+        "[INFO  lnlink::notice] no init channel=0",
+        "[WARN  lnlink::notice] refused channel=0 error=31",
+        "[DEBUG lnlink::notice] order refused channel=0 order=3 error=40",
+        "[WARN  lnlink::notice] halted channel=0",
+        "[INFO  lnlink::notice] loaded channel=0",
+        "[INFO  lnlink::notice] payment held channel=0 event=7",
+        "[WARN  lnlink::lost] steps lost count=2",
+    ];
+    expect(&rt, sink.into_lines(), &expected);
+    Ok(())
+}
+
+#[test]
+fn a_filter_picks_by_target(rt: HostRuntime) -> Result<(), Fail> {
+    let sink = Memory::new(rt.alloc());
+    let filter = Builder::new(rt.alloc()).parse("error,lnlink::save=debug,lnlink::lost=warn")?;
+    let log = FilteredLog::new(&sink, filter.build());
+    log_trace(&log, &trace(rt.alloc())?);
+    drop(log);
+    let expected = [
+        "[DEBUG lnlink::save] saved channel=1 bytes=512",
+        "[WARN  lnlink::save] save refused channel=1 bytes=513 error=61",
+        "[WARN  lnlink::lost] steps lost count=2",
+    ];
+    expect(&rt, sink.into_lines(), &expected);
+    Ok(())
+}
+
+// A clock that moves by 250 microseconds as it is read, up to so many times.
+#[derive(Drop)]
+struct Ticks {
+    reads: Cell<u64>,
+    most: u64,
+}
+
+impl Clock for Ticks {
+    fn monotonic(&self) -> io::Result<Duration> {
+        if self.reads.get() >= self.most {
+            return Err(io::Error::from(io::ErrorKind::Unsupported));
+        }
+        self.reads.set(self.reads.get().saturating_add(1));
+        Ok(Duration::from_micros(self.reads.get().saturating_mul(250)))
+    }
+
+    fn since_1970(&self) -> io::Result<Duration> {
+        Err(io::Error::from(io::ErrorKind::Unsupported))
+    }
+}
+
+#[test]
+fn saves_are_timed_where_they_are_logged(rt: HostRuntime) -> Result<(), Fail> {
+    let sink = Memory::new(rt.alloc());
+    let clock = Ticks {
+        reads: Cell::new(0),
+        most: 2,
+    };
+    let quiet = Logged::new(&clock, Level::Info, &sink);
+    let mut store = LoggedStore::new(MemoryStore::new(rt.alloc()), quiet);
+    store.save(rt.alloc(), &[1; 32], &[5])?;
+    assert_eq!(rt; clock.reads.get(), 0);
+    let loud = Logged::new(&clock, Level::Debug, &sink);
+    let mut store = LoggedStore::new(store.into_inner(), loud);
+    store.save(rt.alloc(), &[171; 32], &[5; 3])?;
+    store.save(rt.alloc(), &[171; 32], &[5; 4])?;
+    assert_eq!(rt; store.ids(rt.alloc())?.len(), 2);
+    drop(store);
+    let expected = [
+        "[DEBUG lnlink::store] saved channel_id=abababababababababababababababababababababababababababababababab \
+            bytes=3 micros=250",
+        "[DEBUG lnlink::store] saved channel_id=abababababababababababababababababababababababababababababababab \
+            bytes=4",
+    ];
+    expect(&rt, sink.into_lines(), &expected);
+    Ok(())
+}
