@@ -1,45 +1,31 @@
-"""The processes of nodes that `run` and `hostile` drive by lines."""
-import os, shutil, signal, subprocess, sys, threading
+"""The processes of nodes that `run`, `hostile` and `many` drive by lines, and `measure scale`."""
+import os, resource, signal, subprocess, sys, threading, time
 
 HERE = os.path.dirname(os.path.abspath(__file__))
-TOP = os.path.dirname(os.path.dirname(HERE))
-LIBRARIES = "ln_demo ln_node ln_book ln_files ln_store ln_link ln_channel ln_hooks ln_keys ln_msgs ln_bytes"
+sys.path.insert(0, os.path.dirname(HERE))
+import proved
+
+LIBRARIES = "ln_demo ln_node ln_book ln_files ln_store ln_link ln_channel ln_hooks ln_keys ln_log ln_msgs ln_bytes"
+TICKS = os.sysconf("SC_CLK_TCK")
 
 
 def program(room):
-    """The program of soak_node/, which is proved first over the libraries that earlier checks left in out/. Its files
-    have endings of their own, as the gate reads no code and no proof beside its crates."""
-    shutil.copy(f"{TOP}/HANDLES", room)
-    os.mkdir(f"{room}/.git")
-    for crate in os.listdir(f"{TOP}/crates"):
-        there, here = f"{TOP}/crates/{crate}", f"{room}/crates/{crate}"
-        shutil.copytree(there, here, ignore=shutil.ignore_patterns("out", "must-fail"))
-        if os.path.isdir(f"{there}/out/rlib"):
-            shutil.copytree(f"{there}/out/rlib", f"{here}/out/rlib")
-    folder = f"{room}/crates/soak_node"
-    for at, _, names in os.walk(f"{HERE}/soak_node"):
-        below = os.path.relpath(at, f"{HERE}/soak_node")
-        to = f"{folder}/src" if below == "." else f"{folder}/{below}"
-        os.makedirs(to)
-        for name in names:
-            shutil.copy(f"{at}/{name}", f"{to}/{name.replace('.rattle', '.rt').replace('.proof', '.antt')}")
-    with open(f"{TOP}/crates.txt") as it:
-        lines = it.read()
-    with open(f"{room}/crates.txt", "w") as it:
-        it.write(f"{lines}soak_node: {LIBRARIES}\n")
-    subprocess.run(["rt", "run", "--", "none"], cwd=folder, stdout=sys.stderr)
-    return f"{folder}/out/soak_node"
+    """The program of soak_node/."""
+    return proved.program(room, f"{HERE}/soak_node", "soak_node", LIBRARIES)
 
 
 class Node:
-    """A node's process. Threads may ask it in turn."""
+    """A node's process, of so many channels where its name leaves that open. Threads may ask it in turn."""
 
-    def __init__(self, made, name, folder):
+    def __init__(self, made, name, folder, channels=0):
         self.made, self.name, self.folder, self.ports = made, name, folder, []
-        self.turn = threading.Lock()
+        # What it is run by, where it isn't by itself.
+        self.by = []
+        self.channels, self.process, self.turn = channels, None, threading.Lock()
 
-    def start(self, peer):
-        words = [self.made, self.name, self.folder, str(peer)]
+    def start(self, *peers):
+        """With the ports of its peers."""
+        words = [*self.by, self.made, self.name, self.folder, ",".join(map(str, peers)), str(self.channels)]
         how = {"stdin": subprocess.PIPE, "stdout": subprocess.PIPE, "text": True, "bufsize": 1}
         self.process = subprocess.Popen(words, **how)
         self.ports = []
@@ -66,13 +52,46 @@ class Node:
                 told.append(got.rstrip("\n"))
 
     def tell(self):
-        names = "usable added fulfilled failed closed twice_added twice_fulfilled".split()
-        return dict(zip(names, map(int, self.ask("tell")[-1].split())))
+        """How many of its channels take payments, and have closed; what its hooks have seen of its own HTLCs, of its
+        peers', and of both."""
+        (usable, closed), *seen = (map(int, it.split()) for it in self.ask("tell"))
+        names = "added fulfilled failed twice_added twice_fulfilled".split()
+        own, peers = (dict(zip(names, it)) for it in seen)
+        both = {it: own[it] + peers[it] for it in names}
+        return {"usable": usable, "closed": closed, "own": own, "peers": peers, **both}
+
+    def offer(self, first, behind, most, channels):
+        """Offers payments, so many under way at most, between two of so many channels each."""
+        while told := self.ask(f"spread {first} {behind} {most} {channels}"):
+            first = int(told[0].split()[1])
+            time.sleep(0.01)
+
+    def status(self, name):
+        """What the system tells of the process by this name, a number."""
+        with open(f"/proc/{self.process.pid}/status") as it:
+            return next(int(line.split()[1]) for line in it if line.startswith(f"{name}:"))
+
+    def memory(self):
+        """In MiB."""
+        return self.status("VmRSS") / 1024
 
     def greatest_memory(self):
         """In MiB, up to now."""
-        with open(f"/proc/{self.process.pid}/status") as it:
-            return next(int(line.split()[1]) for line in it if line.startswith("VmHWM:")) / 1024
+        return self.status("VmHWM") / 1024
+
+    def seconds(self):
+        """Of a processor, so far."""
+        with open(f"/proc/{self.process.pid}/stat") as it:
+            fields = it.read().rsplit(")", 1)[1].split()
+        return (int(fields[11]) + int(fields[12])) / TICKS
+
+    def wakeups(self):
+        """How often one of its threads has waited for something, so far."""
+        count = 0
+        for task in os.listdir(f"/proc/{self.process.pid}/task"):
+            with open(f"/proc/{self.process.pid}/task/{task}/status") as it:
+                count += next(int(line.split()[1]) for line in it if line.startswith("voluntary_ctxt_switches:"))
+        return count
 
     def kill(self):
         self.process.send_signal(signal.SIGKILL)
@@ -81,3 +100,68 @@ class Node:
     def stop(self):
         self.process.stdin.close()
         self.process.wait(60)
+
+
+class Two:
+    """A node in the middle with so many channels, and the node that has their other ends."""
+
+    def __init__(self, made, folder, channels, limit=60):
+        most = resource.getrlimit(resource.RLIMIT_NOFILE)[1]
+        resource.setrlimit(resource.RLIMIT_NOFILE, (most, most))
+        self.middle, self.ends = (Node(made, name, folder, channels) for name in "me")
+        self.both, self.channels, self.limit = [self.middle, self.ends], channels, limit
+
+    def begin(self):
+        """Until each channel takes payments, and signs by itself."""
+        self.middle.start(0)
+        self.ends.start(*self.middle.ports)
+        for it in self.both:
+            it.ask("idle")
+        self.wait(self.is_usable, "the channels don't open")
+
+    def of_a_channel(self):
+        """Threads and MiB of a channel of the middle node, beside those of a node without channels."""
+        alone = Node(self.middle.made, "m", "-")
+        alone.start(0)
+        threads, memory = (ask(self.middle) - ask(alone) for ask in (lambda it: it.status("Threads"), Node.memory))
+        alone.stop()
+        return threads / self.channels, memory / self.channels
+
+    def is_usable(self):
+        if all(it.tell()["usable"] == self.channels for it in self.both):
+            return True
+        for it in self.both:
+            it.ask("confirm")
+        return False
+
+    def wait(self, holds, why):
+        since = time.time()
+        while not holds():
+            if time.time() - since > self.limit:
+                raise RuntimeError(f"{why}: {[it.tell() for it in self.both]}")
+            time.sleep(0.05)
+
+    def is_quiet(self):
+        """Whether nothing is under way, for two looks."""
+        for _ in range(2):
+            own = self.ends.tell()["own"]
+            busy = any(it.ask("busy") != ["0"] for it in self.both)
+            if busy or own["added"] != own["fulfilled"] + own["failed"]:
+                return False
+            time.sleep(0.1)
+        return True
+
+    def quiet(self):
+        """Until all that was ordered was taken, and nothing is under way."""
+        for it in self.both:
+            it.ask("flush")
+        self.wait(self.is_quiet, "payments don't end")
+
+    def end(self):
+        for it in reversed(self.both):
+            it.stop()
+
+    def kill(self):
+        for it in self.both:
+            if it.process:
+                it.process.kill()

@@ -128,6 +128,8 @@ fn read_all(mut stream: TcpStream, seat: SyncSender<Item>) {
 struct Worker {
     link: Link,
     line: Option<TcpStream>,
+    /// Whether it signs where it has nothing else to do.
+    idle: bool,
     ready: Arc<AtomicBool>,
     tasks: SyncSender<(u64, Event2)>,
     book: Arc<Mutex<Book>>,
@@ -200,11 +202,7 @@ impl Worker {
             Item::Read(channel, message, bytes) => self.link.take(channel, message, &bytes, &mut out),
             Item::Order(Order::Confirm) => self.link.command("confirm", &[], &mut out),
             Item::Order(Order::Sign) => self.link.command("sign", &[], &mut out),
-            Item::Order(Order::Add { hash, onion }) => {
-                let answer = self.link.offer(AMOUNT, EXPIRY, hash, onion, &mut out);
-                self.link.save();
-                answer
-            }
+            Item::Order(Order::Add { hash, onion }) => self.link.offer(AMOUNT, EXPIRY, hash, onion, &mut out),
         };
         self.finish(answer, out);
     }
@@ -217,7 +215,6 @@ impl Worker {
                 let add = self.link.peer.find(id).map(|it| it.1.hash);
                 if add == Some(sha256(&preimage)) {
                     self.link.propose(Update::Fulfil { id, preimage }, &mut out);
-                    self.link.save();
                     Ok(())
                 } else {
                     Err(44)
@@ -230,11 +227,22 @@ impl Worker {
     fn run(mut self, items: Receiver<Item>) {
         loop {
             let command = self.book.lock().unwrap().commands.pop_front();
-            let busy = command.is_some();
+            let mut busy = command.is_some();
             if let Some(command) = command {
                 self.obey(command);
             }
-            match items.recv_timeout(if busy { Duration::ZERO } else { Duration::from_millis(100) }) {
+            if let Ok(item) = items.try_recv() {
+                busy = true;
+                self.serve(item);
+            }
+            if !busy && self.idle && self.link.owes() {
+                busy = true;
+                self.serve(Item::Order(Order::Sign));
+            }
+            if busy {
+                continue;
+            }
+            match items.recv_timeout(Duration::from_millis(100)) {
                 Ok(item) => self.serve(item),
                 Err(RecvTimeoutError::Timeout) => {}
                 Err(RecvTimeoutError::Disconnected) => return,
@@ -268,12 +276,18 @@ struct Node {
     ready: Arc<AtomicBool>,
 }
 
-fn start(link: Link, stream: impl FnOnce() -> TcpStream + Send + 'static, hook: Hook, expected: HashMap<Id, Id>) -> Node {
+fn start(
+    link: Link,
+    idle: bool,
+    stream: impl FnOnce() -> TcpStream + Send + 'static,
+    hook: Hook,
+    expected: HashMap<Id, Id>,
+) -> Node {
     let (seat, items) = sync_channel(ITEMS);
     let (events, tasks) = sync_channel(TASKS);
     let book = Arc::new(Mutex::new(Book { expected, commands: VecDeque::new() }));
     let ready = Arc::new(AtomicBool::new(false));
-    let worker = Worker { link, line: None, ready: ready.clone(), tasks: events, book: book.clone() };
+    let worker = Worker { link, line: None, idle, ready: ready.clone(), tasks: events, book: book.clone() };
     thread::spawn(move || worker.run(items));
     let bell = seat.clone();
     thread::spawn(move || dispatch(tasks, hook, book, bell));
@@ -312,17 +326,19 @@ fn settings(script: u8) -> Config {
     config(&[1, 30, 1_000_000_000_000, 0, 300, 200, 400], script)
 }
 
-fn pay(port: u16, count: u64, window: u64) {
+fn pay(port: u16, count: u64, window: u64, idle: bool) {
     let mut link = Link::new(true, keys(1, 1, 2), settings(65));
     link.satoshis = 1_000_000;
     let done = Arc::new(AtomicU64::new(0));
-    let counted = done.clone();
+    let (counted, payer) = (done.clone(), thread::current());
     let hook: Hook = Box::new(move |event| {
         if let Event2::Fulfilled = event {
             counted.fetch_add(1, Ordering::SeqCst);
+            payer.unpark();
         }
     });
-    let node = start(link, move || TcpStream::connect(("127.0.0.1", port)).unwrap(), hook, HashMap::new());
+    let stream = move || TcpStream::connect(("127.0.0.1", port)).unwrap();
+    let node = start(link, idle, stream, hook, HashMap::new());
     node.open();
     wait();
     let mut offered = 0;
@@ -334,32 +350,41 @@ fn pay(port: u16, count: u64, window: u64) {
                 continue;
             }
         }
-        node.order(Order::Sign);
-        pause();
+        if idle {
+            thread::park_timeout(Duration::from_millis(1));
+        } else {
+            node.order(Order::Sign);
+            pause();
+        }
     }
     println!("done");
     wait();
 }
 
-fn serve(count: u64) {
+fn serve(count: u64, idle: bool) {
     let link = Link::new(false, keys(1, 2, 1), settings(66));
     let expected = (0..count).map(preimage).map(|it| (sha256(&it), it)).collect();
     let listener = TcpListener::bind("127.0.0.1:0").unwrap();
     println!("port {}", listener.local_addr().unwrap().port());
-    let node = start(link, move || listener.accept().unwrap().0, Box::new(|_| {}), expected);
+    let node = start(link, idle, move || listener.accept().unwrap().0, Box::new(|_| {}), expected);
     node.open();
     wait();
     loop {
-        node.order(Order::Sign);
-        pause();
+        if idle {
+            thread::park();
+        } else {
+            node.order(Order::Sign);
+            pause();
+        }
     }
 }
 
 fn main() {
     let words: Vec<String> = std::env::args().skip(1).collect();
     let number = |at: usize| words.get(at).and_then(|it| it.parse().ok()).unwrap_or(0u64);
+    let idle = words.get(4).is_some_and(|it| it == "idle");
     match words.first().map(String::as_str) {
-        Some("pay") => pay(number(1) as u16, number(2), number(3)),
-        _ => serve(number(1)),
+        Some("pay") => pay(number(1) as u16, number(2), number(3), idle),
+        _ => serve(number(2), idle),
     }
 }

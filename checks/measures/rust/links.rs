@@ -657,7 +657,8 @@ impl Link {
         } else {
             match message {
                 Message::Ready(point) => (self.ready_taken, self.next_point) = (true, point),
-                Message::Update(update) => self.take_update(update)?,
+                // An update alone is no news: until a signature covers it no record has it.
+                Message::Update(update) => return self.take_update(update),
                 Message::Commit(first, all) => self.take_commit(first, all, out)?,
                 Message::Revoke(secret, next) => self.take_revoke(secret, next, out)?,
                 _ => return Err(21),
@@ -775,7 +776,7 @@ impl Link {
             "sign" => self.sign(out)?,
             "add" => {
                 let hash = sha256(&[numbers[2] as u8; 32]);
-                self.offer(numbers[0], numbers[1] as u32, hash, Box::new([0; ONION]), out)?;
+                return self.offer(numbers[0], numbers[1] as u32, hash, Box::new([0; ONION]), out);
             }
             _ => {
                 let (id, preimage) = (numbers[0], [numbers[1] as u8; 32]);
@@ -790,6 +791,7 @@ impl Link {
                     return Err(44);
                 }
                 self.propose(Update::Fulfil { id, preimage }, out);
+                return Ok(());
             }
         }
         self.save();
@@ -817,11 +819,21 @@ impl Link {
         self.own.window.push_back(update);
     }
 
+    /// What a signature made now would cover.
+    fn covered(&self) -> Counts {
+        (self.own.len(), self.current.1)
+    }
+
+    /// Whether a signature can be made, and covers something new.
+    fn owes(&self) -> bool {
+        self.is_ready() && self.signatures == self.revocations && self.covered() != self.signed
+    }
+
     fn sign(&mut self, out: &mut Outputs) -> Answer<()> {
         if self.signatures != self.revocations {
             return Err(41);
         }
-        let covered = (self.own.len(), self.current.1);
+        let covered = self.covered();
         if covered == self.signed {
             return Err(42);
         }
