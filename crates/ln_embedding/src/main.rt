@@ -203,15 +203,21 @@ where
         }
     }
 
-    /// Confirms the channel, as its chain would, until the payer can pay. Error 65: a minute has passed.
+    /// Confirms the channel to a node, and waits for the answer: orders that nobody waits for would hold up messages.
+    fn confirm_to(&self, node: &MyNode<S, H, T>) {
+        if let Ok(ticket) = node.ask(&self.rt, 0, Command::Confirm(PLACE)) {
+            let _ = node.wait_for_answer(&self.rt, ticket, 60_000);
+        }
+    }
+
+    /// Confirms the channel, as its chain would, until the payer can pay. Error 65: a minute has passed, or more.
     fn confirm(&self) -> Result<(), Refusal> {
-        let rt = &self.rt;
         for _ in 0..60_000 {
             if self.is_ready() {
                 return Ok(());
             }
-            let _ = self.payer.order(rt, 0, Command::Confirm(PLACE));
-            let _ = self.payee.order(rt, 0, Command::Confirm(PLACE));
+            self.confirm_to(&self.payer);
+            self.confirm_to(&self.payee);
             thread::sleep(self.host, Duration::from_millis(1));
         }
         Err(Refusal::GaveUp)
