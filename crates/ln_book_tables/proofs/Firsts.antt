@@ -5,12 +5,12 @@ use Rattle.std.proofs.lemmas.Bool.Decides.{leb_tells}
 use Rattle.std.proofs.lemmas.List.Sums.{fails_before_first}
 use Rattle.std.proofs.lemmas.List.Quantifiers.{position-Some}
 use Rattle.std.specs.List.{list_any, position, position_or_len, find}
-use Rattle.std.specs.Prelude.{not, ◌&&◌, ◌||◌, remove, nat_lt}
+use Rattle.std.specs.Prelude.{not, ◌||◌, remove, nat_lt}
 use Rattle.std.specs.List.{insert}
 use Rattle.ln_book_tables.specs.Replay.{changed_first, left_out, without_first}
 use Rattle.ln_book_tables.specs.Places.{with_place}
 
-abbrev Fails : {A : Type 0} → (A → Bool) → List A → Type 0
+abbrev pub Fails : {A : Type 0} → (A → Bool) → List A → Type 0
 Fails {A} p xs = (k : ℕ) (d : A) → k < length xs → p (get_or xs k d) ≡ false
 
 unchanged : {A : Type 0} (p : A → Bool) (f : A → A) (xs : List A) → Fails p xs → changed_first p f xs ≡ xs
@@ -18,27 +18,22 @@ unchanged p f [] out = refl
 unchanged p f (x ∷ xs) out = ap (λ b. cond b (f x ∷ xs) (x ∷ changed_first p f xs)) (out zero x (omega arith))
     ∙ ap (λ ys. x ∷ ys) (unchanged p f xs (λ k d lt. out (suc k) d (omega (arith, lt))))
 
-all_kept : {A : Type 0} (p : A → Bool) (xs : List A) → Fails p xs → left_out p xs ≡ xs
+pub all_kept : {A : Type 0} (p : A → Bool) (xs : List A) → Fails p xs → left_out p xs ≡ xs
 all_kept p [] out = refl
 all_kept p (x ∷ xs) out = ap (λ b. cond (not b) (x ∷ left_out p xs) (left_out p xs)) (out zero x (omega arith))
     ∙ ap (λ ys. x ∷ ys) (all_kept p xs (λ k d lt. out (suc k) d (omega (arith, lt))))
 
-no_pair : {A : Type 0} (p q : A → Bool) (xs : List A) → Fails p xs → list_any (λ x. p x && q x) xs ≡ false
-no_pair p q [] out = refl
-no_pair p q (x ∷ xs) out = ap (λ b. (b && q x) || list_any (λ y. p y && q y) xs) (out zero x (omega arith))
-    ∙ no_pair p q xs (λ k d lt. out (suc k) d (omega (arith, lt)))
+pub no_any : {A : Type 0} (p : A → Bool) (xs : List A) → Fails p xs → list_any p xs ≡ false
+no_any p [] out = refl
+no_any p (x ∷ xs) out = ap (λ b. b || list_any p xs) (out zero x (omega arith))
+    ∙ no_any p xs (λ k d lt. out (suc k) d (omega (arith, lt)))
 
-all_fail : {A : Type 0} (p : A → Bool) (xs : List A) → position p xs ≡ None → Fails p xs
+pub all_fail : {A : Type 0} (p : A → Bool) (xs : List A) → position p xs ≡ None → Fails p xs
 all_fail p xs e = elim (leb_tells (suc (position_or_len p xs)) (length xs)) [
   | inl g ↦ absurd (let is : Some (position_or_len p xs) ≡ None =
       sym (ap (λ t. cond t (Some (position_or_len p xs)) None) g.0) ∙ e in cc)
   | inr g ↦ λ k d lt. fails_before_first p xs k d (omega (arith, lt, g.1))
 ]
-
--- where none passes, none passes a further test too
-pub none_of_both : {A : Type 0} (p q : A → Bool) (xs : List A) → position p xs ≡ None
-    → list_any (λ x. p x && q x) xs ≡ false
-none_of_both p q xs e = no_pair p q xs (all_fail p xs e)
 
 -- where none passes
 pub changed_none : {A : Type 0} (p : A → Bool) (f : A → A) (xs : List A) → position p xs ≡ None

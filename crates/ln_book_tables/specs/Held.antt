@@ -37,6 +37,10 @@ held_by_number qs h (Some n) =
 abbrev pub held_of : List Queued → Htlc → Option HeldHtlc
 held_of qs h = held_by_number qs h (number_in h.mark)
 
+abbrev pub held_in_slot : List Queued → Option Htlc → Option HeldHtlc
+held_in_slot qs None = None
+held_in_slot qs (Some h) = held_of qs h
+
 abbrev pub held_among : List Queued → List Htlc → List HeldHtlc
 held_among qs [] = []
 held_among qs (h ∷ hs) = cons_option (held_of qs h) (held_among qs hs)

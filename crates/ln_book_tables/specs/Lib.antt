@@ -3,3 +3,7 @@ pub mod Lists
 pub mod Held
 pub mod Places
 pub mod Due
+pub mod KeyIndex
+pub mod Slots
+pub mod Ids
+pub mod Indices

@@ -1,8 +1,7 @@
-//! The HTLCs of a book to which a command may be due in some channel, and their places.
+//! The HTLCs of a book to which a command may be due in some channel.
 
-ghost use Rattle.std.specs.Prelude.{◌≡◌, ◌≤◌, length};
-ghost use Rattle.std.specs.Vec.{vec_capacity};
-ghost use Rattle.ln_book_tables.specs.Due.{is_forwarded, due_places};
+ghost use Rattle.std.specs.Prelude.{◌≡◌};
+ghost use Rattle.ln_book_tables.specs.Due.{is_forwarded};
 
 use crate::htlc::{Htlc, IncomingLeg, OutgoingLeg};
 use ln_log::Mark;
@@ -94,20 +93,6 @@ impl Htlc {
         } else {
             self.outgoing.has_nothing_offered() && is_forwarded(&self.mark)
                 || self.has_removal() && self.incoming.is_open()
-        }
-    }
-}
-
-/// Makes the index anew. Takes no memory.
-pub(crate) fn index_all(htlcs: &[Htlc], places: &mut Vec<usize>)
-    requires { length htlcs.now ≤ vec_capacity places.old }
-    ensures indexed { places.new.items ≡ due_places htlcs.now }
-    ensures room { vec_capacity places.new ≡ vec_capacity places.old }
-{
-    places.clear();
-    for place in 0..htlcs.len() {
-        if htlcs[place].is_due() {
-            places.push_reserved(place);
         }
     }
 }

@@ -1,7 +1,8 @@
 //! What a book's channels hold.
 
 ghost use Rattle.std.specs.Prelude.{◌≡◌, IfOk, IfErr};
-ghost use Rattle.ln_book_tables.specs.Held.{number_in, held_of, held_among};
+ghost use Rattle.ln_book_tables.specs.Held.{number_in, held_of, held_among, held_in_slot};
+ghost use Rattle.ln_book_tables.specs.Slots.{in_slots};
 
 use crate::entry::Queued;
 use crate::htlc::Htlc;
@@ -27,7 +28,8 @@ pub struct HeldHtlc {
     pub expiry: u32,
 }
 
-fn number_in(mark: &Mark) -> Option<u64>
+/// The number by which a mark holds an HTLC.
+pub(crate) fn number_in(mark: &Mark) -> Option<u64>
     ensures { result ≡ number_in mark.now }
 {
     match mark {
@@ -56,18 +58,28 @@ fn held_of(queue: &[Queued], htlc: &Htlc) -> Option<HeldHtlc>
     })
 }
 
-/// Those of these HTLCs that are held and not being resumed. Error: 60 alone.
+// The HTLC of a slot, where it is held and not being resumed.
+fn held_in_slot(queue: &[Queued], slot: &Option<Htlc>) -> Option<HeldHtlc>
+    ensures { result ≡ held_in_slot queue.now slot.now }
+{
+    match slot {
+        None => None,
+        Some(htlc) => held_of(queue, htlc),
+    }
+}
+
+/// Those of the HTLCs of these slots that are held and not being resumed. Error: 60 alone.
 pub(crate) fn held_among(
     alloc: Global,
     queue: &[Queued],
-    htlcs: &[Htlc],
+    slots: &[Option<Htlc>],
 ) -> Result<Vec<HeldHtlc>, Refusal>
-    ensures held { IfOk result (λ v. v.items ≡ held_among queue.now htlcs.now) }
+    ensures held { IfOk result (λ v. v.items ≡ held_among queue.now (in_slots slots.now)) }
     ensures fails_for_memory_alone { IfErr result (λ r. r ≡ Refusal.Memory) }
 {
     let mut all = Vec::new(alloc);
-    for htlc in htlcs {
-        match held_of(queue, htlc) {
+    for slot in slots {
+        match held_in_slot(queue, slot) {
             None => {}
             Some(held) => all.push(held)?,
         }

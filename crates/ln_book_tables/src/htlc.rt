@@ -4,7 +4,7 @@ use ln_hooks::How;
 use ln_log::{ChannelId, Mark};
 
 /// An HTLC by the channel in which it was offered, and its id among those that its side has offered there.
-#[derive(Clone, Copy, PartialEq, Eq)]
+#[derive(Clone, Copy, PartialEq, Eq, Hash)]
 pub struct Key {
     /// The channel.
     pub channel: ChannelId,

@@ -1,78 +1,104 @@
-//! The HTLCs of a book in order of deciding, with the index of those to which a command may be due.
+//! The HTLCs of a book in order of deciding, found without a walk.
 
-use crate::due::index_all;
-use crate::entry::{Decided, KeptState};
+use crate::entry::{Decided, KeptState, Queued};
+use crate::held::{HeldHtlc, held_among};
 use crate::htlc::{Htlc, IncomingLeg, Key, OutgoingLeg};
-use crate::lists::{
-    Change, Which, change_first, index_of, leave_out_over, leave_out_undecided, retain_others,
-};
+use crate::ids::ids_in;
+use crate::indices::Indices;
+use crate::lists::{Change, Which};
 use crate::lost::put_back_all;
+use crate::slots::{change_first, index_all, leave_out, leave_out_over, place_of, squeeze};
 use ln_log::{ChannelId, Mark};
 use ln_msgs::Refusal;
 use std::alloc::Global;
 use std::marker::Model;
 
-/// HTLCs, and the places of those to which a command may be due. Contracts see the HTLCs.
+/// HTLCs in slots, of which one that was left out leaves an empty one, and the indices of those slots. Contracts see
+/// the HTLCs.
 #[derive(Drop)]
 pub(crate) struct IndexedHtlcs {
-    items: Vec<Htlc>,
-    due: Vec<usize>,
+    slots: Vec<Option<Htlc>>,
+    indices: Indices,
 }
 
 impl Model for IndexedHtlcs {
-    ghost use Rattle.std.specs.Prelude.{◌≡◌, ◌≤◌, List, length};
-    ghost use Rattle.std.specs.Vec.{vec_capacity};
+    ghost use Rattle.std.specs.Prelude.{List};
     ghost use Rattle.ln_book_tables.specs.declared.htlc.Htlc.{Htlc};
-    ghost use Rattle.ln_book_tables.specs.Due.{due_places};
+    ghost use Rattle.ln_book_tables.specs.Slots.{in_slots};
+    ghost use Rattle.ln_book_tables.specs.Indices.{IsIndexed};
 
     ghost Value = { List Htlc };
 
-    ghost view = { λ h. h.items.items };
+    ghost view = { λ h. in_slots h.slots.items };
 
-    ghost invariant = { λ h. (h.due.items ≡ due_places h.items.items)
-        × (length h.items.items ≤ vec_capacity h.due) };
+    ghost invariant = { λ h. IsIndexed h.slots.items h.indices };
 }
 
 impl IndexedHtlcs {
-    ghost use Rattle.std.specs.Prelude.{◌≡◌, ◌<◌, ◌≤◌, [], map, length, OnOk, OnErr, IfOk, IfErr};
+    ghost use Rattle.std.specs.Prelude.{◌≡◌, ◌<◌, [], map, length, OnOk, OnErr, IfOk, IfErr, option_copied};
     ghost use Rattle.std.specs.Prelude.{slice_index_or};
-    ghost use Rattle.std.specs.Vec.{vec_capacity};
+    ghost use Rattle.std.specs.List.{find};
     ghost use Rattle.ln_book_tables.specs.Replay.{changed_first, left_out, with_mark, with_offer, htlc_kept};
     ghost use Rattle.ln_book_tables.specs.Lists.{picks, changed_by};
     ghost use Rattle.ln_book_tables.specs.Due.{due_htlcs};
+    ghost use Rattle.ln_book_tables.specs.Held.{held_among};
+    ghost use Rattle.ln_book_tables.specs.Ids.{ids_in};
 
     /// None. Takes no memory.
     pub(crate) fn new(alloc: Global) -> IndexedHtlcs
         ensures { result ≡ [] }
     {
         IndexedHtlcs {
-            items: Vec::new(alloc),
-            due: Vec::new(alloc),
+            slots: Vec::new(alloc),
+            indices: Indices::new(alloc),
         }
     }
 
     /// These. Error: 60 alone.
-    pub(crate) fn of(alloc: Global, items: Vec<Htlc>) -> Result<IndexedHtlcs, Refusal>
-        ensures these { IfOk result (λ h. h ≡ items.items) }
+    pub(crate) fn of(alloc: Global, htlcs: Vec<Htlc>) -> Result<IndexedHtlcs, Refusal>
+        ensures these { IfOk result (λ h. h ≡ htlcs.items) }
         ensures fails_for_memory_alone { IfErr result (λ r. r ≡ Refusal.Memory) }
     {
-        let mut due = Vec::with_capacity(alloc, items.len())?;
-        index_all(items.as_slice(), &mut due);
-        Ok(IndexedHtlcs { items, due })
+        let slots = slots_of(alloc, htlcs)?;
+        let mut indices = Indices::new(alloc);
+        if !indices.reserve(slots.len()) {
+            return Err(Refusal::Memory);
+        }
+        index_all(slots.as_slice(), &mut indices);
+        Ok(IndexedHtlcs { slots, indices })
     }
 
-    /// All of them.
-    pub(crate) fn as_slice(&self) -> &[Htlc]
-        ensures { result.now ≡ self.now }
+    /// The first that is meant.
+    pub(crate) fn find(&self, which: &Which) -> Option<&Htlc>
+        ensures { option_copied result ≡ find (picks which.now) self.now }
     {
-        self.items.as_slice()
+        match place_of(self.slots.as_slice(), &self.indices, which) {
+            None => None,
+            Some(place) => self.slots[place].as_ref(),
+        }
+    }
+
+    /// Those that are held and not being resumed. Error: 60 alone.
+    pub(crate) fn all_held(&self, alloc: Global, queue: &[Queued]) -> Result<Vec<HeldHtlc>, Refusal>
+        ensures held { IfOk result (λ v. v.items ≡ held_among queue.now self.now) }
+        ensures fails_for_memory_alone { IfErr result (λ r. r ≡ Refusal.Memory) }
+    {
+        held_among(alloc, queue, self.slots.as_slice())
+    }
+
+    /// The ids of the channel's. Error: 60 alone.
+    pub(crate) fn ids_in(&self, alloc: Global, channel: &ChannelId) -> Result<Vec<u64>, Refusal>
+        ensures ids { IfOk result (λ v. v.items ≡ ids_in channel.now self.now) }
+        ensures fails_for_memory_alone { IfErr result (λ r. r ≡ Refusal.Memory) }
+    {
+        ids_in(alloc, self.slots.as_slice(), channel)
     }
 
     /// How many a command may be due to.
     pub(crate) fn due_count(&self) -> usize
         ensures { result ≡ length (due_htlcs self.now) }
     {
-        self.due.len()
+        self.indices.due.len()
     }
 
     /// One of those.
@@ -80,27 +106,24 @@ impl IndexedHtlcs {
         requires { index < length (due_htlcs self.now) }
         ensures { result.now ≡ slice_index_or (due_htlcs self.now) index result.now }
     {
-        &self.items[self.due[index]]
+        match &self.slots[self.indices.due[index]] {
+            None => unreachable!(),
+            Some(htlc) => htlc,
+        }
     }
 
     /// Changes the first one that is meant. Takes no memory.
     pub(crate) fn change_first(&mut self, which: &Which, change: Change)
         ensures { self.new ≡ changed_first (picks which.now) (changed_by change) self.old }
     {
-        change_first(&mut self.items, &mut self.due, which, change);
+        change_first(&mut self.slots, &mut self.indices, which, change);
     }
 
     /// Leaves out those that are meant. Takes no memory.
     pub(crate) fn leave_out(&mut self, which: &Which)
         ensures { self.new ≡ left_out (picks which.now) self.old }
     {
-        match index_of(self.items.as_slice(), which) {
-            None => {}
-            Some(_) => {
-                retain_others(&mut self.items, which);
-                index_all(self.items.as_slice(), &mut self.due);
-            }
-        }
+        leave_out(&mut self.slots, &mut self.indices, which);
     }
 
     /// The one that is held by the number of this event gets this mark, and those about which nothing is left to be
@@ -109,16 +132,15 @@ impl IndexedHtlcs {
         ensures { self.new ≡ with_mark channel.now event mark self.old }
     {
         self.change_first(&Which::Held(*channel, event), Change::Mark(mark));
-        leave_out_over(&mut self.items);
-        index_all(self.items.as_slice(), &mut self.due);
+        leave_out_over(&mut self.slots, &mut self.indices);
     }
 
-    /// What a channel has lost of each is put back. Takes no memory.
+    /// What a channel has lost of each is put back: by a walk over all, which makes the indices anew. Takes no memory.
     pub(crate) fn put_back_all(&mut self, channel: &ChannelId, told: &KeptState)
         ensures { self.new ≡ map (htlc_kept channel.now told.now) self.old }
     {
-        put_back_all(&mut self.items, channel, told);
-        index_all(self.items.as_slice(), &mut self.due);
+        put_back_all(&mut self.slots, channel, told);
+        index_all(self.slots.as_slice(), &mut self.indices);
     }
 
     /// The one that was decided, if any, joins the others; the mark is a copy of its mark. Error: 60, which changes
@@ -129,42 +151,56 @@ impl IndexedHtlcs {
         ensures changes_nothing_if_refused { OnErr result (self.new ≡ self.old) }
         ensures fails_for_memory_alone { IfErr result (λ r. r ≡ Refusal.Memory) }
     {
-        if !has_room(&mut self.items, &mut self.due) {
+        squeeze(&mut self.slots, &mut self.indices);
+        if !has_room(&mut self.slots, &mut self.indices) {
             return Err(Refusal::Memory);
         }
-        join_reserved(&mut self.items, &mut self.due, decided, mark);
+        join_reserved(&mut self.slots, &mut self.indices, decided, mark);
         Ok(())
     }
 }
 
-ghost use Rattle.std.specs.Prelude.{◌≡◌, ◌<◌, ◌≤◌, IsTrue, length};
+ghost use Rattle.std.specs.Prelude.{◌≡◌, ◌<◌, List, [], ◌∷◌, ◌++◌, Option, Some, IsTrue, IfOk, IfErr};
 ghost use Rattle.std.specs.Vec.{vec_capacity, vec_len};
+ghost use Rattle.ln_book_tables.specs.declared.htlc.Htlc.{Htlc};
 ghost use Rattle.ln_book_tables.specs.Replay.{with_offer};
-ghost use Rattle.ln_book_tables.specs.Due.{due_places};
+ghost use Rattle.ln_book_tables.specs.Slots.{in_slots};
+ghost use Rattle.ln_book_tables.specs.Indices.{IsIndexed};
 
-// Makes room for one more, and says whether there is.
-fn has_room(htlcs: &mut Vec<Htlc>, places: &mut Vec<usize>) -> bool
-    requires { vec_len places.old ≤ vec_len htlcs.old }
-    ensures room { IsTrue result → (vec_len htlcs.new < vec_capacity htlcs.new)
-        × (length htlcs.new.items < vec_capacity places.new) }
-    ensures same { (htlcs.new.items ≡ htlcs.old.items) × (places.new.items ≡ places.old.items) }
-    ensures grows { vec_capacity places.old ≤ vec_capacity places.new }
+// A slot for each. Error: 60 alone.
+fn slots_of(alloc: Global, htlcs: Vec<Htlc>) -> Result<Vec<Option<Htlc>>, Refusal>
+    ensures these { IfOk result (λ v. in_slots v.items ≡ htlcs.items) }
+    ensures fails_for_memory_alone { IfErr result (λ r. r ≡ Refusal.Memory) }
 {
-    if htlcs.reserve(1).is_err() {
-        return false;
+    let mut slots = Vec::with_capacity(alloc, htlcs.len())?;
+    for htlc in htlcs {
+        slots.push(Some(htlc))?;
     }
-    let missing = htlcs.capacity() - places.len();
-    places.reserve(missing).is_ok()
+    Ok(slots)
 }
 
-// The HTLC that was decided, if any, joins the others, for which there is room. No command is due to it yet.
-fn join_reserved(htlcs: &mut Vec<Htlc>, places: &mut Vec<usize>, decided: &Decided, mark: Mark)
+// Makes room for one more, and says whether there is.
+fn has_room(slots: &mut Vec<Option<Htlc>>, indices: &mut Indices) -> bool
+    ensures room { IsTrue result → (vec_len slots.new < vec_capacity slots.new)
+        × (vec_len slots.new < vec_capacity indices.new.due) }
+    ensures same { slots.new.items ≡ slots.old.items }
+    ensures indexed { (ss : List (Option Htlc)) → IsIndexed ss indices.old → IsIndexed ss indices.new }
+{
+    slots.reserve(1).is_ok() && indices.reserve(slots.capacity())
+}
+
+// The HTLC that was decided, if any, joins the others, for which there is room.
+fn join_reserved(
+    slots: &mut Vec<Option<Htlc>>,
+    indices: &mut Indices,
+    decided: &Decided,
+    mark: Mark,
+)
     requires same { mark ≡ decided.now.mark }
-    requires room { (vec_len htlcs.old < vec_capacity htlcs.old) × (length htlcs.old.items < vec_capacity places.old) }
-    requires indexed { places.old.items ≡ due_places htlcs.old.items }
-    ensures joined { htlcs.new.items ≡ with_offer decided.now decided.now.offer htlcs.old.items }
-    ensures indexed { places.new.items ≡ due_places htlcs.new.items }
-    ensures room { length htlcs.new.items ≤ vec_capacity places.new }
+    requires room { (vec_len slots.old < vec_capacity slots.old) × (vec_len slots.old < vec_capacity indices.old.due) }
+    requires indexed { IsIndexed slots.old.items indices.old }
+    ensures joined { in_slots slots.new.items ≡ with_offer decided.now decided.now.offer (in_slots slots.old.items) }
+    ensures indexed { IsIndexed slots.new.items indices.new }
 {
     let Some(offer) = decided.offer else {
         return;
@@ -172,10 +208,11 @@ fn join_reserved(htlcs: &mut Vec<Htlc>, places: &mut Vec<usize>, decided: &Decid
     let channel = decided.channel;
     let id = offer.id;
     let key = Key { channel, id };
-    if leave_out_undecided(htlcs, places, &key) {
+    if place_of(slots.as_slice(), indices, &Which::Decided(key)).is_some() {
         return;
     }
-    htlcs.push_reserved(Htlc {
+    leave_out(slots, indices, &Which::Htlc(key));
+    let htlc = Htlc {
         key,
         event: decided.event,
         offer,
@@ -183,5 +220,19 @@ fn join_reserved(htlcs: &mut Vec<Htlc>, places: &mut Vec<usize>, decided: &Decid
         decided: false,
         outgoing: OutgoingLeg::Absent,
         incoming: IncomingLeg::Open,
-    });
+    };
+    push(slots, indices, htlc);
+}
+
+// One more in a slot behind the others.
+fn push(slots: &mut Vec<Option<Htlc>>, indices: &mut Indices, htlc: Htlc)
+    requires room { (vec_len slots.old < vec_capacity slots.old) × (vec_len slots.old < vec_capacity indices.old.due) }
+    requires indexed { IsIndexed slots.old.items indices.old }
+    ensures pushed { slots.new.items ≡ slots.old.items ++ Some htlc ∷ [] }
+    ensures indexed { IsIndexed slots.new.items indices.new }
+{
+    let place = slots.len();
+    let slot = Some(htlc);
+    indices.push(place, &slot);
+    slots.push_reserved(slot);
 }

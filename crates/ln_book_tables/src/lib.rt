@@ -6,10 +6,15 @@ mod due;
 mod entry;
 mod held;
 mod htlc;
+mod ids;
 mod indexed;
+mod indices;
+mod key_index;
 mod lists;
 mod lost;
+mod names;
 mod places;
+mod slots;
 mod tables;
 
 pub use entry::{

@@ -1,19 +1,12 @@
-//! Searches and changes in the lists of a book, by scans.
+//! Which HTLC of a book is meant and what becomes of it, and the queue of its decisions.
 
-ghost use Rattle.std.specs.Prelude.{◌≡◌, ◌≤◌, if◌then◌else◌};
-ghost use Rattle.std.specs.Prelude.{option_copied};
+ghost use Rattle.std.specs.Prelude.{◌≡◌, ◌≤◌};
 ghost use Rattle.std.specs.List.{position, list_any, find};
-ghost use Rattle.std.specs.Prelude.{length};
 ghost use Rattle.std.specs.Vec.{vec_capacity, vec_len};
-ghost use Rattle.ln_book_tables.specs.Replay.{changed_first, left_out, without_first, is_htlc, is_queued, is_decided};
-ghost use Rattle.ln_book_tables.specs.Replay.{is_held_in, is_over, is_resumed};
-ghost use Rattle.ln_book_tables.specs.Lists.{picks, changed_by};
-ghost use Rattle.ln_book_tables.specs.Due.{due_places};
+ghost use Rattle.ln_book_tables.specs.Replay.{left_out, without_first, is_queued, is_resumed};
 
-use crate::due::index_all;
 use crate::entry::Queued;
 use crate::htlc::{Htlc, IncomingLeg, Key, OutgoingLeg};
-use crate::places::put_place;
 use ln_log::{ChannelId, Mark};
 
 /// Which HTLC is meant.
@@ -29,6 +22,8 @@ pub(crate) enum Which {
     Undecided(ChannelId, u64),
     /// The one of this key, where it is finished.
     Finished(Key),
+    /// The one of this key, where the channel has decided it.
+    Decided(Key),
     /// The one that is held by the number of this event of the channel.
     Held(ChannelId, u64),
 }
@@ -117,8 +112,8 @@ impl Htlc {
         key.is(&self.key) && self.is_over()
     }
 
-    // Whether nothing is left to be done about it.
-    fn is_over(&self) -> bool
+    /// Whether nothing is left to be done about it.
+    pub(crate) fn is_over(&self) -> bool
         ensures { result ≡ is_over self.now }
     {
         self.incoming.is_settled() && self.outgoing.is_none() && !self.mark.is_held()
@@ -131,8 +126,8 @@ impl Htlc {
         self.decided && self.mark.is_held_by(event) && channel == &self.key.channel
     }
 
-    // Whether it is meant.
-    fn is_picked(&self, which: &Which) -> bool
+    /// Whether it is meant.
+    pub(crate) fn is_picked(&self, which: &Which) -> bool
         ensures { result ≡ picks which.now self.now }
     {
         match which {
@@ -141,12 +136,13 @@ impl Htlc {
             Which::Offered(key) => self.outgoing.goes_by(key),
             Which::Undecided(channel, event) => self.is_told(channel, *event) && !self.decided,
             Which::Finished(key) => self.is_finished(key),
+            Which::Decided(key) => key.is(&self.key) && self.decided,
             Which::Held(channel, event) => self.is_held_in(channel, *event),
         }
     }
 
-    // Changes it.
-    fn change(&mut self, change: Change)
+    /// Changes it.
+    pub(crate) fn change(&mut self, change: Change)
         ensures { self.new ≡ changed_by change self.old }
     {
         match change {
@@ -155,61 +151,6 @@ impl Htlc {
             Change::Incoming(incoming) => self.incoming = incoming,
             Change::Mark(mark) => self.mark = mark,
         }
-    }
-}
-
-// The place of the first HTLC that is meant. One search for each kind of test, so that none asks for the kind again at
-// each HTLC.
-pub(crate) fn index_of(htlcs: &[Htlc], which: &Which) -> Option<usize>
-    ensures { result ≡ position (picks which.now) htlcs.now }
-{
-    let mut all = htlcs.iter();
-    match which {
-        Which::Htlc(key) => all.position(|htlc| key.is(&htlc.key)),
-        Which::OfEvent(channel, event) => all.position(|htlc| htlc.is_told(channel, *event)),
-        Which::Offered(key) => all.position(|htlc| htlc.outgoing.goes_by(key)),
-        Which::Undecided(channel, event) => {
-            all.position(|htlc| htlc.is_told(channel, *event) && !htlc.decided)
-        }
-        Which::Finished(key) => all.position(|htlc| htlc.is_finished(key)),
-        Which::Held(channel, event) => all.position(|htlc| htlc.is_held_in(channel, *event)),
-    }
-}
-
-/// Changes the first HTLC that is meant, and what the index says of it.
-pub(crate) fn change_first(
-    htlcs: &mut Vec<Htlc>,
-    places: &mut Vec<usize>,
-    which: &Which,
-    change: Change,
-)
-    requires indexed { places.old.items ≡ due_places htlcs.old.items }
-    requires room { length htlcs.old.items ≤ vec_capacity places.old }
-    ensures changed { htlcs.new.items ≡ changed_first (picks which.now) (changed_by change) htlcs.old.items }
-    ensures indexed { places.new.items ≡ due_places htlcs.new.items }
-    ensures room { length htlcs.new.items ≤ vec_capacity places.new }
-{
-    match index_of(htlcs.as_slice(), which) {
-        None => drop(change),
-        Some(place) => {
-            let htlc = &mut htlcs[place];
-            let was_due = htlc.is_due();
-            htlc.change(change);
-            let is_due = htlc.is_due();
-            put_place(places, place, was_due, is_due);
-        }
-    }
-}
-
-/// Leaves out the HTLCs that are meant.
-pub(crate) fn retain_others(htlcs: &mut Vec<Htlc>, which: &Which)
-    ensures left { htlcs.new.items ≡ left_out (picks which.now) htlcs.old.items }
-    ensures room { (vec_capacity htlcs.new ≡ vec_capacity htlcs.old) × (vec_len htlcs.new ≤ vec_len htlcs.old) }
-{
-    if let Which::Htlc(key) = which {
-        htlcs.retain(|htlc| !key.is(&htlc.key));
-    } else {
-        htlcs.retain(|htlc| !htlc.is_picked(which));
     }
 }
 
@@ -240,13 +181,6 @@ impl Queued {
     }
 }
 
-/// The HTLC that is held by the number of this event of the channel.
-pub(crate) fn held_in<'a>(htlcs: &'a [Htlc], channel: &ChannelId, event: u64) -> Option<&'a Htlc>
-    ensures { option_copied result ≡ find (is_held_in channel.now event) htlcs.now }
-{
-    htlcs.iter().find(|htlc| htlc.is_held_in(channel, event))
-}
-
 /// Whether what is held by the number of this event is being resumed.
 pub(crate) fn is_any_resumed(queue: &[Queued], channel: &ChannelId, event: u64) -> bool
     ensures { result ≡ list_any (is_resumed channel.now event) queue.now }
@@ -272,43 +206,4 @@ pub(crate) fn unresume(queue: &mut Vec<Queued>, channel: &ChannelId, event: u64)
         None => None,
         Some(place) => Some(queue.remove(place)),
     }
-}
-
-/// Leaves out those about which nothing is left to be done.
-pub(crate) fn leave_out_over(htlcs: &mut Vec<Htlc>)
-    ensures left { htlcs.new.items ≡ left_out is_over htlcs.old.items }
-    ensures room { vec_len htlcs.new ≤ vec_len htlcs.old }
-{
-    htlcs.retain(|htlc| !htlc.is_over());
-}
-
-/// Leaves out the HTLC of this key, unless it is decided, with what the index says of it; says whether it is.
-pub(crate) fn leave_out_undecided(htlcs: &mut Vec<Htlc>, places: &mut Vec<usize>, key: &Key) -> bool
-    requires indexed { places.old.items ≡ due_places htlcs.old.items }
-    requires room { length htlcs.old.items ≤ vec_capacity places.old }
-    ensures told { result ≡ list_any (is_decided key.now) htlcs.old.items }
-    ensures left { htlcs.new.items ≡ if result then htlcs.old.items else left_out (is_htlc key.now) htlcs.old.items }
-    ensures room { (vec_capacity htlcs.new ≡ vec_capacity htlcs.old) × (vec_len htlcs.new ≤ vec_len htlcs.old) }
-    ensures indexed { places.new.items ≡ due_places htlcs.new.items }
-    ensures same_room { vec_capacity places.new ≡ vec_capacity places.old }
-{
-    let which = Which::Htlc(*key);
-    match index_of(htlcs.as_slice(), &which) {
-        None => false,
-        Some(_) => {
-            if is_any_decided(htlcs.as_slice(), key) {
-                return true;
-            }
-            retain_others(htlcs, &which);
-            index_all(htlcs.as_slice(), places);
-            false
-        }
-    }
-}
-
-// Whether the HTLC of this key is decided.
-fn is_any_decided(htlcs: &[Htlc], key: &Key) -> bool
-    ensures { result ≡ list_any (is_decided key.now) htlcs.now }
-{
-    htlcs.iter().any(|htlc| key.is(&htlc.key) && htlc.decided)
 }

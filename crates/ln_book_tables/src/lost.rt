@@ -1,6 +1,7 @@
 //! What a channel has lost is put back, behind a lost connection or a load.
 
-ghost use Rattle.std.specs.Prelude.{◌≡◌, map};
+ghost use Rattle.std.specs.Prelude.{◌≡◌, map, Option};
+ghost use Rattle.std.specs.Option.{option_map};
 ghost use Rattle.ln_book_tables.specs.Replay.{is_outgoing_lost, incoming_kept, htlc_kept};
 
 use crate::entry::{Ids, KeptState};
@@ -53,11 +54,20 @@ fn put_incoming(htlc: &mut Htlc, channel: &ChannelId, told: &KeptState)
     }
 }
 
-/// What a channel has lost of each HTLC is put back. Takes no memory.
-pub(crate) fn put_back_all(htlcs: &mut Vec<Htlc>, channel: &ChannelId, told: &KeptState)
-    ensures { htlcs.new.items ≡ map (htlc_kept channel.now told.now) htlcs.old.items }
+// What a channel has lost of the HTLC of a slot, if it holds one, is put back.
+fn put_back(slot: &mut Option<Htlc>, channel: &ChannelId, told: &KeptState)
+    ensures { slot.new ≡ option_map (htlc_kept channel.now told.now) slot.old }
 {
-    for htlc in htlcs.iter_mut() {
+    if let Some(htlc) = slot {
         put_incoming(htlc, channel, told);
+    }
+}
+
+/// What a channel has lost of each HTLC is put back. Takes no memory.
+pub(crate) fn put_back_all(slots: &mut Vec<Option<Htlc>>, channel: &ChannelId, told: &KeptState)
+    ensures { slots.new.items ≡ map (option_map (htlc_kept channel.now told.now)) slots.old.items }
+{
+    for slot in slots.iter_mut() {
+        put_back(slot, channel, told);
     }
 }

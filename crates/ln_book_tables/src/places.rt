@@ -1,6 +1,6 @@
 //! The places of those of a list that pass a test, kept as it changes.
 
-ghost use Rattle.std.specs.Prelude.{◌≡◌, ◌<◌, nat_lt, nat_eq, not, IsTrue};
+ghost use Rattle.std.specs.Prelude.{◌≡◌, ◌<◌, nat_lt, nat_eq, not, IsTrue, [], ◌∷◌, ◌++◌, if◌then◌else◌};
 ghost use Rattle.std.specs.List.{position};
 ghost use Rattle.std.specs.Vec.{vec_capacity, vec_len};
 ghost use Rattle.ln_book_tables.specs.Places.{with_place, places_behind};
@@ -56,5 +56,16 @@ pub(crate) fn put_place(places: &mut Vec<usize>, place: usize, was_due: bool, is
         (false, false) | (true, true) => {}
         (false, true) => add_place(places, place),
         (true, false) => remove_place(places, place),
+    }
+}
+
+/// One more stands behind the others, at this place. Takes no memory.
+pub(crate) fn push_place(places: &mut Vec<usize>, place: usize, is_due: bool)
+    requires { vec_len places.old < vec_capacity places.old }
+    ensures indexed { places.new.items ≡ if is_due then places.old.items ++ place ∷ [] else places.old.items }
+    ensures room { vec_capacity places.new ≡ vec_capacity places.old }
+{
+    if is_due {
+        places.push_reserved(place);
     }
 }

@@ -3,10 +3,10 @@
 use crate::entry::{
     Decided, Invoice, KeptState, Out, OutgoingChannel, PendingCommand, Queued, Resumed,
 };
-use crate::held::{HeldHtlc, held_among};
+use crate::held::HeldHtlc;
 use crate::htlc::{Htlc, IncomingLeg, Key, OutgoingLeg};
 use crate::indexed::IndexedHtlcs;
-use crate::lists::{Change, Which, held_in, is_any_resumed, unqueue, unresume};
+use crate::lists::{Change, Which, is_any_resumed, unqueue, unresume};
 use indexmap::IndexMap;
 use ln_hooks::How;
 use ln_keys::sha256_32;
@@ -47,8 +47,10 @@ impl Tables {
     ghost use Rattle.std.specs.Prelude.{◌≡◌, OnOk, OnErr, IfErr, IfOk, option_copied};
     ghost use Rattle.std.specs.Map.{lookup};
     ghost use Rattle.ln_book_tables.specs.Replay.{no_table, same, with_route, with_use, with_height, with_invoice};
-    ghost use Rattle.ln_book_tables.specs.Replay.{is_usable, pending_command_at, held_by};
+    ghost use Rattle.std.specs.List.{find};
+    ghost use Rattle.ln_book_tables.specs.Replay.{is_usable, pending_command_at, held_by, is_htlc, is_offered};
     ghost use Rattle.ln_book_tables.specs.Held.{all_held};
+    ghost use Rattle.ln_book_tables.specs.Ids.{ids_in};
     ghost use Rattle.std.specs.Prelude.{◌<◌, length, slice_index_or};
     ghost use Rattle.ln_book_tables.specs.Due.{due_htlcs};
 
@@ -148,11 +150,26 @@ impl Tables {
         self.queue.as_slice()
     }
 
-    /// The HTLCs, in order of deciding.
-    pub fn htlcs(&self) -> &[Htlc]
-        ensures { result.now ≡ self.now.htlcs }
+    /// The first HTLC of this key. Found without a walk over all.
+    pub fn htlc(&self, key: &Key) -> Option<&Htlc>
+        ensures { option_copied result ≡ find (is_htlc key.now) self.now.htlcs }
     {
-        self.htlcs.as_slice()
+        self.htlcs.find(&Which::Htlc(*key))
+    }
+
+    /// The first HTLC whose outgoing HTLC this is. Found without a walk over all.
+    pub fn offered(&self, key: &Key) -> Option<&Htlc>
+        ensures { option_copied result ≡ find (is_offered key.now) self.now.htlcs }
+    {
+        self.htlcs.find(&Which::Offered(*key))
+    }
+
+    /// The ids of the channel's HTLCs, in order of deciding: by a walk over all. Error: 60 alone.
+    pub fn ids_in(&self, alloc: Global, channel: &ChannelId) -> Result<Vec<u64>, Refusal>
+        ensures ids { IfOk result (λ v. v.items ≡ ids_in channel.now self.now.htlcs) }
+        ensures fails_for_memory_alone { IfErr result (λ r. r ≡ Refusal.Memory) }
+    {
+        self.htlcs.ids_in(alloc, channel)
     }
 
     /// How many HTLCs a command may be due to. The others needn't be looked at for one.
@@ -177,7 +194,7 @@ impl Tables {
         if is_any_resumed(self.queue.as_slice(), channel, event) {
             return None;
         }
-        held_in(self.htlcs.as_slice(), channel, event)
+        self.htlcs.find(&Which::Held(*channel, event))
     }
 
     /// What is held and not being resumed, in order of deciding. Error: 60 alone.
@@ -185,7 +202,7 @@ impl Tables {
         ensures held { IfOk result (λ v. v.items ≡ all_held self.now) }
         ensures fails_for_memory_alone { IfErr result (λ r. r ≡ Refusal.Memory) }
     {
-        held_among(alloc, self.queue.as_slice(), self.htlcs.as_slice())
+        self.htlcs.all_held(alloc, self.queue.as_slice())
     }
 
     /// The command of a channel.

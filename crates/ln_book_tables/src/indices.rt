@@ -1,0 +1,135 @@
+//! What is kept of the slots of a book, so that an HTLC is found in them without a walk.
+
+use crate::htlc::{Htlc, Key};
+use crate::key_index::{KeyIndex, Told};
+use crate::lists::Which;
+use crate::names::{Names, names_in};
+use crate::places::{push_place, put_place};
+use ln_log::ChannelId;
+use std::alloc::Global;
+
+/// The indices of a book's slots.
+#[derive(Drop)]
+pub(crate) struct Indices {
+    pub(crate) due: Vec<usize>,
+    pub(crate) by_key: KeyIndex,
+    pub(crate) by_event: KeyIndex,
+    pub(crate) by_held: KeyIndex,
+    pub(crate) by_outgoing: KeyIndex,
+}
+
+impl Indices {
+    ghost use Rattle.std.specs.Prelude.{◌≡◌, ℕ, ◌<◌, ◌≤◌, List, [], ◌∷◌, ◌++◌, length, get_or, set, Option, None};
+    ghost use Rattle.std.specs.Prelude.{IsTrue, not};
+    ghost use Rattle.std.specs.Vec.{vec_capacity, vec_len};
+    ghost use Rattle.ln_book_tables.specs.declared.htlc.Htlc.{Htlc};
+    ghost use Rattle.ln_book_tables.specs.Indices.{IsIndexed, names, at_event, told_by};
+
+    /// Of no slots. Takes no memory.
+    pub(crate) fn new(alloc: Global) -> Indices
+        ensures { IsIndexed [] result }
+    {
+        Indices {
+            due: Vec::new(alloc),
+            by_key: KeyIndex::new(alloc),
+            by_event: KeyIndex::new(alloc),
+            by_held: KeyIndex::new(alloc),
+            by_outgoing: KeyIndex::new(alloc),
+        }
+    }
+
+    /// Of no slots, from now on. Takes no memory.
+    pub(crate) fn clear(&mut self)
+        ensures indexed { IsIndexed [] self.new }
+        ensures room { vec_capacity self.new.due ≡ vec_capacity self.old.due }
+    {
+        self.due.clear();
+        self.by_key.clear();
+        self.by_event.clear();
+        self.by_held.clear();
+        self.by_outgoing.clear();
+    }
+
+    /// Makes room for this many slots, and says whether there is.
+    pub(crate) fn reserve(&mut self, count: usize) -> bool
+        ensures same { (ss : List (Option Htlc)) → IsIndexed ss self.old → IsIndexed ss self.new }
+        ensures room { IsTrue result → count ≤ vec_capacity self.new.due }
+    {
+        let missing = count.saturating_sub(self.due.len());
+        self.due.reserve(missing).is_ok() && self.reserve_keys(count)
+    }
+
+    // Makes room for this many keys in each.
+    fn reserve_keys(&mut self, count: usize) -> bool
+        ensures same { (ss : List (Option Htlc)) → IsIndexed ss self.old → IsIndexed ss self.new }
+        ensures room { vec_capacity self.new.due ≡ vec_capacity self.old.due }
+    {
+        self.by_key.reserve(count)
+            && self.by_event.reserve(count)
+            && self.by_held.reserve(count)
+            && self.by_outgoing.reserve(count)
+    }
+
+    /// What stands in one more slot, the last one, at this place. Takes no memory.
+    pub(crate) fn push(&mut self, place: usize, slot: &Option<Htlc>)
+        requires room { place < vec_capacity self.old.due }
+        requires fewer { vec_len self.old.due ≤ place }
+        ensures indexed { (ss : List (Option Htlc)) → length ss ≡ place → IsIndexed ss self.old
+            → IsIndexed (ss ++ slot.now ∷ []) self.new }
+        ensures room { vec_capacity self.new.due ≡ vec_capacity self.old.due }
+    {
+        let names = names_in(slot);
+        push_place(&mut self.due, place, names.due);
+        self.by_key.enter_any(place, &names.key);
+        self.by_event.enter_any(place, &names.event);
+        self.by_held.enter_any(place, &names.held);
+        self.by_outgoing.enter_any(place, &names.outgoing);
+    }
+
+    /// What stood in the slot at a place was of these names, and now is of those. Takes no memory.
+    pub(crate) fn replace(&mut self, place: usize, before: &Names, after: &Names)
+        requires { IsTrue (not before.now.due) → vec_len self.old.due < vec_capacity self.old.due }
+        ensures indexed { (ss : List (Option Htlc)) (s : Option Htlc) → place < length ss
+            → before.now ≡ names (get_or ss place None) → after.now ≡ names s → IsIndexed ss self.old
+            → IsIndexed (set ss place s) self.new }
+        ensures room { vec_capacity self.new.due ≡ vec_capacity self.old.due }
+    {
+        put_place(&mut self.due, place, before.due, after.due);
+        self.by_key.replace(place, &before.key, &after.key);
+        self.by_event.replace(place, &before.event, &after.event);
+        self.by_held.replace(place, &before.held, &after.held);
+        self.by_outgoing
+            .replace(place, &before.outgoing, &after.outgoing);
+    }
+
+    // What an event told of. No event has the number 2^64 - 1.
+    fn at_event(&self, channel: &ChannelId, event: u64) -> Told
+        ensures { result ≡ at_event channel.now event self.now }
+    {
+        if event == u64::MAX {
+            return Told::Unknown;
+        }
+        let channel = *channel;
+        self.by_event.told(&Key { channel, id: event })
+    }
+
+    /// Where the HTLC that is meant may stand.
+    pub(crate) fn told(&self, which: &Which) -> Told
+        ensures { result ≡ told_by which.now self.now }
+    {
+        match which {
+            Which::Htlc(key) | Which::Finished(key) | Which::Decided(key) => self.by_key.told(key),
+            Which::OfEvent(channel, event) | Which::Undecided(channel, event) => {
+                self.at_event(channel, *event)
+            }
+            Which::Offered(key) => self.by_outgoing.told(key),
+            Which::Held(channel, event) => {
+                let channel = *channel;
+                self.by_held.told(&Key {
+                    channel,
+                    id: *event,
+                })
+            }
+        }
+    }
+}
