@@ -337,7 +337,7 @@ impl Book {
             ChannelEvent::Settled { own, id, .. } => {
                 let channel = *channel;
                 let id = *id;
-                other_channel(*own, &Key { channel, id }, self.tables.htlcs())
+                other_channel(*own, &Key { channel, id }, &self.tables)
             }
         }
     }

@@ -1,11 +1,16 @@
--- What is read of two lists, one behind the other.
+-- What is read of two lists, one behind the other; and of the HTLCs of a channel.
 use Rattle.std.specs.Prelude.{◌≡◌, ℕ, List, [], ◌∷◌, ◌++◌, Option, Some, None}
 use Rattle.std.specs.List.{cons_option}
-use Rattle.std.proofs.Common.{refl, ap, ◌∙◌}
+use Rattle.std.specs.Prelude.{Bool, true, false, cond, filter, ◌&&◌}
+use Rattle.std.proofs.Common.{refl, ap, sym, ◌∙◌}
 use Rattle.ln_log.specs.declared.update.Add.{Add}
 use Rattle.ln_log.specs.declared.update.Update.{Update}
 use Rattle.ln_log.specs.Updates.{offered, add_with}
 use Rattle.ln_log.proofs.Removing.{or_else, add_with-append}
+use Rattle.ln_book_tables.specs.declared.htlc.Htlc.{Htlc}
+use Rattle.ln_book_tables.specs.Replay.{same}
+use Rattle.ln_book_tables.specs.Ids.{ids_in}
+use Rattle.ln_book_recovery.specs.Kept.{kept_ids}
 use Rattle.ln_book_recovery.specs.declared.leg.Leg.{Leg}
 use Rattle.ln_book_recovery.specs.Rebuild.{leg_of, legs_offered}
 
@@ -24,3 +29,19 @@ found_before id p q a e = add_with-append id p q ∙ ap (λ o. or_else o (add_wi
 
 pub found_behind : (id : ℕ) (p q : List Update) → add_with id p ≡ None → add_with id (p ++ q) ≡ add_with id q
 found_behind id p q e = add_with-append id p q ∙ ap (λ o. or_else o (add_with id q)) e
+
+among_by : (b c : Bool) (id : ℕ) (xs ys : List ℕ) (removes : ℕ → Bool) → removes id ≡ c → xs ≡ filter removes ys
+    → cond (b && c) (id ∷ xs) xs ≡ filter removes (cond b (id ∷ ys) ys)
+among_by true true id xs ys removes is e =
+    ap (λ zs. id ∷ zs) e ∙ sym (ap (λ d. cond d (id ∷ filter removes ys) (filter removes ys)) is)
+among_by true false id xs ys removes is e =
+    e ∙ sym (ap (λ d. cond d (id ∷ filter removes ys) (filter removes ys)) is)
+among_by false c id xs ys removes is e = e
+
+-- of the ids of the channel's HTLCs those of which a removal was kept
+pub kept_among : (removes : ℕ → Bool) (c : List ℕ) (hs : List Htlc)
+    → kept_ids removes c hs ≡ filter removes (ids_in c hs)
+kept_among removes c [] = refl
+kept_among removes c (h ∷ hs) =
+    among_by (same c h.key.channel) (removes h.key.id) h.key.id (kept_ids removes c hs) (ids_in c hs) removes refl
+    (kept_among removes c hs)

@@ -1,11 +1,11 @@
 //! What a channel has kept, behind a lost connection or a load.
 
-ghost use Rattle.std.specs.Prelude.{◌≡◌, ◌&&◌, IfOk, IfErr, option_copied};
+ghost use Rattle.std.specs.Prelude.{◌≡◌, filter, IfOk, IfErr, option_copied};
 ghost use Rattle.std.specs.List.{find};
-ghost use Rattle.ln_book_tables.specs.Replay.{same, is_queued, is_resumed};
-ghost use Rattle.ln_book_recovery.specs.Kept.{kept_ids, is_decision_kept, is_pending_command_kept, kept_state_of};
+ghost use Rattle.ln_book_tables.specs.Replay.{is_queued, is_resumed};
+ghost use Rattle.ln_book_recovery.specs.Kept.{is_decision_kept, is_pending_command_kept, kept_state_of};
 
-use ln_book_tables::{Htlc, Ids, KeptState, Out, PendingCommand, Queued, Tables};
+use ln_book_tables::{Ids, KeptState, Out, PendingCommand, Queued, Tables};
 use ln_log::{ChannelId, Mark};
 use ln_msgs::Refusal;
 use std::alloc::Global;
@@ -38,30 +38,18 @@ pub trait Kept {
         ensures { result ≡ decides self.now event mark.now };
 }
 
-// Whether a removal is to be told of. Asks the channel.
-fn is_removal_kept<T: Kept>(kept: &T, channel: &ChannelId, htlc: &Htlc) -> bool
-    ensures { result ≡ (same channel.now htlc.now.key.channel && T.removes kept.now htlc.now.key.id) }
-{
-    channel == &htlc.key.channel && kept.removal_kept(htlc.key.id)
-}
-
-// Of the channel's HTLCs those of which a removal was kept. Error: 60 alone.
-fn kept_ids<T: Kept>(
-    alloc: Global,
-    kept: &T,
-    channel: &ChannelId,
-    htlcs: &[Htlc],
-) -> Result<Vec<u64>, Refusal>
-    ensures ids { IfOk result (λ v. v.items ≡ kept_ids (T.removes kept.now) channel.now htlcs.now) }
+// Of the ids of the channel's HTLCs those of which a removal was kept. Asks the channel. Error: 60 alone.
+fn kept_ids<T: Kept>(alloc: Global, kept: &T, ids: &[u64]) -> Result<Vec<u64>, Refusal>
+    ensures ids { IfOk result (λ v. v.items ≡ filter (T.removes kept.now) ids.now) }
     ensures fails_for_memory_alone { IfErr result (λ r. r ≡ Refusal.Memory) }
 {
-    let mut ids = Vec::new(alloc);
-    for htlc in htlcs {
-        if is_removal_kept(kept, channel, htlc) {
-            ids.push(htlc.key.id)?;
+    let mut all = Vec::new(alloc);
+    for id in ids {
+        if kept.removal_kept(*id) {
+            all.push(*id)?;
         }
     }
-    Ok(ids)
+    Ok(all)
 }
 
 // The decision of an event that is queued.
@@ -114,6 +102,7 @@ fn is_pending_command_kept<T: Kept>(
 }
 
 /// All that a channel is asked. Error: 60 alone.
+#[tactic(auto, using(crate::proofs::Lists::kept_among))]
 pub fn kept_state_of<T: Kept>(
     alloc: Global,
     kept: &T,
@@ -124,7 +113,8 @@ pub fn kept_state_of<T: Kept>(
         channel.now tables.now) }
     ensures fails_for_memory_alone { IfErr result (λ r. r ≡ Refusal.Memory) }
 {
-    let ids = kept_ids(alloc, kept, channel, tables.htlcs())?;
+    let ids = tables.ids_in(alloc, channel)?;
+    let removes = kept_ids(alloc, kept, ids.as_slice())?;
     let decides = is_pending_command_kept(
         kept,
         channel,
@@ -133,7 +123,7 @@ pub fn kept_state_of<T: Kept>(
     );
     Ok(KeptState {
         next: kept.next_own_id(),
-        removes: Ids::of(ids),
+        removes: Ids::of(removes),
         decides,
     })
 }
