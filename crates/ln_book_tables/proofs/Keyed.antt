@@ -58,7 +58,8 @@ put_by true at place i key e is = sym is ∙ ap at (sym (eqb-true i place e))
 put_by false at place i key e is = refl
 
 -- the same is put there again
-pub put_same : (at : ℕ → Option Key) (place : ℕ) (key : Option Key) → at place ≡ key → (i : ℕ) → put_at place key at i ≡ at i
+pub put_same : (at : ℕ → Option Key) (place : ℕ) (key : Option Key) → at place ≡ key → (i : ℕ)
+    → put_at place key at i ≡ at i
 put_same at place key is i = put_by (nat_eq i place) at place i key refl is
 
 again_by : (e : Bool) (x one other : Option Key) → cond e other x ≡ cond e other (cond e one x)

@@ -1,9 +1,10 @@
 -- What an index tells of the HTLC that is meant.
-use Rattle.std.proofs.Common.{◌≡◌, ℕ, List, get_or, refl, sym, ap, ◌∙◌, Bool, true, false, cond, Option, None, Some}
-use Rattle.std.proofs.Common.{rules, IsTrue}
+use Rattle.std.proofs.Common.{◌≡◌, ℕ, List, [], ◌∷◌, length, get_or, refl, sym, ap, ◌∙◌, Bool, true, false, cond}
+use Rattle.std.proofs.Common.{Option, None, Some, rules, IsTrue, arith}
 use Rattle.std.specs.Prelude.{nat_eq, ◌&&◌}
 use Rattle.std.proofs.lemmas.Bool.{eqb-true}
 use Rattle.std.specs.Option.{option_map}
+use Rattle.std.specs.Map.{lookup}
 use Rattle.ln_log.specs.Mark.{is_held_by}
 use Rattle.ln_log.specs.declared.mark.Mark.{Mark}
 use Rattle.ln_log.specs.declared.mark.Mark.TheVariants as mark
@@ -18,7 +19,7 @@ use Rattle.ln_book_tables.specs.declared.lists.Which.{Which}
 use Rattle.ln_book_tables.specs.declared.lists.Which.TheVariants as which
 use Rattle.ln_book_tables.specs.declared.names.Names.{Names}
 use Rattle.ln_book_tables.specs.declared.indices.Indices.{Indices}
-use Rattle.ln_book_tables.specs.Replay.{same, same_key, goes_by, is_told}
+use Rattle.ln_book_tables.specs.Replay.{same, same_key, goes_by, is_told, is_over}
 use Rattle.ln_book_tables.specs.Held.{number_in}
 use Rattle.ln_book_tables.specs.Lists.{picks}
 use Rattle.ln_book_tables.specs.Slots.{passes}
@@ -34,6 +35,13 @@ first_true false b e = e
 second_true : (a b : Bool) → (a && b) ≡ true → b ≡ true
 second_true true b e = e
 second_true false b e = absurd (let no : false ≡ true = e in cc)
+
+no_entries : {A : Type 0} (xs : List A) → length xs ≡ 0 → xs ≡ []
+no_entries [] e = refl
+no_entries (x ∷ xs) e = absurd (omega (arith, e))
+
+itself : (k : Key) → same_key k k ≡ true
+itself k = search rules
 
 -- ---- who is meant is found by its name
 
@@ -118,3 +126,25 @@ told_right (which.Decided k) ss x d = right_by (picks (which.Decided k)) k (λ n
     (λ h is. named_key k h.key (first_true (same_key k h.key) _ is)) d.by_key
 told_right (which.Held c n) ss x d = right_by (picks (which.Held c n)) (record { channel = c; id = n }) (λ m. m.held) ss
     x.by_held (λ h is. named_mark h.mark c n h (second_true h.decided _ is)) d.by_held
+
+-- ---- an index that has no key
+
+nowhere_in : (k : Key) (x : KeyIndex) → nat_eq (length x.places.entries) 0 ≡ true → place_of k x ≡ None
+nowhere_in k x e = ap (lookup (is_key k)) (no_entries x.places.entries (eqb-true (length x.places.entries) 0 e))
+
+over_named : (b : Bool) (h : Htlc) → b ≡ true → is_named h.key (cond b (Some h.key) None) ≡ true
+over_named true h e = named_key h.key h.key (itself h.key)
+over_named false h e = absurd (let no : false ≡ true = e in cc)
+
+over_slot : (s : Option Htlc) → passes is_over s ≡ true → (k : Key) × (is_named k (names s).over ≡ true)
+over_slot None e = absurd (let no : false ≡ true = e in cc)
+over_slot (Some h) e = (h.key, over_named (is_over h) h e)
+
+-- something is left to be done about each HTLC
+pub none_over : (ss : List (Option Htlc)) (x : Indices) → IsIndexed ss x
+    → (x.by_over.exact && nat_eq (length x.by_over.places.entries) 0) ≡ true → NonePasses is_over ss
+none_over ss x d e j = not_true (passes is_over (get_or ss j None))
+    (λ is. let at = over_slot (get_or ss j None) is in
+    let never : false ≡ true =
+    ap (is_place j) (sym (nowhere_in at.0 x.by_over (second_true x.by_over.exact _ e)))
+    ∙ sym (d.by_over (first_true x.by_over.exact _ e) at.0 j) ∙ at.1 in absurd (cc))

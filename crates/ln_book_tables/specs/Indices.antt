@@ -17,6 +17,7 @@ use Rattle.ln_book_tables.specs.Due.{is_due}
 use Rattle.ln_book_tables.specs.Held.{number_in}
 use Rattle.ln_book_tables.specs.KeyIndex.{IsIndexOf, told_in}
 use Rattle.ln_book_tables.specs.Places.{places_of}
+use Rattle.ln_book_tables.specs.Replay.{is_over}
 use Rattle.ln_book_tables.specs.Slots.{passes}
 
 -- a number in the channel of an HTLC
@@ -37,17 +38,22 @@ outgoing_key outgoing.Refused = None
 outgoing_key (outgoing.Offered k) = Some k
 outgoing_key (outgoing.Resolved k how) = Some k
 
+-- nothing is left to be done about it
+abbrev pub over_name : Htlc → Option Key
+over_name h = if is_over h then Some h.key else None
+
 abbrev pub names_of : Htlc → Names
 names_of h = record {
   key = Some h.key;
   event = event_name h;
   held = held_name h;
   outgoing = outgoing_key h.outgoing;
+  over = over_name h;
   due = is_due h;
 }
 
 abbrev pub no_names : Names
-no_names = record { key = None; event = None; held = None; outgoing = None; due = false }
+no_names = record { key = None; event = None; held = None; outgoing = None; over = None; due = false }
 
 abbrev pub names : Option Htlc → Names
 names None = no_names
@@ -64,6 +70,7 @@ pub record IsIndexed (ss : List (Option Htlc)) (x : Indices) : Type 0 where
   pub by_event : IsIndexOf (names_at ss (λ n. n.event)) x.by_event
   pub by_held : IsIndexOf (names_at ss (λ n. n.held)) x.by_held
   pub by_outgoing : IsIndexOf (names_at ss (λ n. n.outgoing)) x.by_outgoing
+  pub by_over : IsIndexOf (names_at ss (λ n. n.over)) x.by_over
 
 abbrev pub at_event : List ℕ → ℕ → Indices → Told
 at_event c n x = if n == 18446744073709551615 then told.Unknown

@@ -22,8 +22,7 @@ is_place i (Some j) = nat_eq i j
 abbrev pub place_of : Key → KeyIndex → Option ℕ
 place_of k x = lookup (is_key k) x.places.entries
 
--- where it is exact: a key stands at a place exactly where the index says so, and at no other one; `at` says what stands
--- at each place
+-- where it is exact: a key stands at a place exactly where the index says so; `at` says what stands at each place
 abbrev pub IsIndexOf : (ℕ → Option Key) → KeyIndex → Type 0
 IsIndexOf at x = IsTrue x.exact → (k : Key) (i : ℕ) → is_named k (at i) ≡ is_place i (place_of k x)
 

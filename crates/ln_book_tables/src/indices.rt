@@ -16,11 +16,12 @@ pub(crate) struct Indices {
     pub(crate) by_event: KeyIndex,
     pub(crate) by_held: KeyIndex,
     pub(crate) by_outgoing: KeyIndex,
+    pub(crate) by_over: KeyIndex,
 }
 
 impl Indices {
     ghost use Rattle.std.specs.Prelude.{◌≡◌, ℕ, ◌<◌, ◌≤◌, List, [], ◌∷◌, ◌++◌, length, get_or, set, Option, None};
-    ghost use Rattle.std.specs.Prelude.{IsTrue, not};
+    ghost use Rattle.std.specs.Prelude.{IsTrue, not, ◌&&◌, nat_eq};
     ghost use Rattle.std.specs.Vec.{vec_capacity, vec_len};
     ghost use Rattle.ln_book_tables.specs.declared.htlc.Htlc.{Htlc};
     ghost use Rattle.ln_book_tables.specs.Indices.{IsIndexed, names, at_event, told_by};
@@ -35,6 +36,7 @@ impl Indices {
             by_event: KeyIndex::new(alloc),
             by_held: KeyIndex::new(alloc),
             by_outgoing: KeyIndex::new(alloc),
+            by_over: KeyIndex::new(alloc),
         }
     }
 
@@ -48,6 +50,7 @@ impl Indices {
         self.by_event.clear();
         self.by_held.clear();
         self.by_outgoing.clear();
+        self.by_over.clear();
     }
 
     /// Makes room for this many slots, and says whether there is.
@@ -68,6 +71,7 @@ impl Indices {
             && self.by_event.reserve(count)
             && self.by_held.reserve(count)
             && self.by_outgoing.reserve(count)
+            && self.by_over.reserve(count)
     }
 
     /// What stands in one more slot, the last one, at this place. Takes no memory.
@@ -84,6 +88,7 @@ impl Indices {
         self.by_event.enter_any(place, &names.event);
         self.by_held.enter_any(place, &names.held);
         self.by_outgoing.enter_any(place, &names.outgoing);
+        self.by_over.enter_any(place, &names.over);
     }
 
     /// What stood in the slot at a place was of these names, and now is of those. Takes no memory.
@@ -100,6 +105,14 @@ impl Indices {
         self.by_held.replace(place, &before.held, &after.held);
         self.by_outgoing
             .replace(place, &before.outgoing, &after.outgoing);
+        self.by_over.replace(place, &before.over, &after.over);
+    }
+
+    /// Whether it is known that something is left to be done about each HTLC.
+    pub(crate) fn has_none_over(&self) -> bool
+        ensures { result ≡ self.now.by_over.exact && nat_eq (length self.now.by_over.places.entries) 0 }
+    {
+        self.by_over.exact && self.by_over.places.is_empty()
     }
 
     // What an event told of. No event has the number 2^64 - 1.

@@ -18,6 +18,8 @@ pub(crate) struct Names {
     pub(crate) held: Option<Key>,
     /// Its outgoing HTLC.
     pub(crate) outgoing: Option<Key>,
+    /// Its id, where nothing is left to be done about it.
+    pub(crate) over: Option<Key>,
     /// Whether a command may be due to it.
     pub(crate) due: bool,
 }
@@ -39,7 +41,7 @@ impl OutgoingLeg {
 
 impl Htlc {
     ghost use Rattle.std.specs.Prelude.{◌≡◌};
-    ghost use Rattle.ln_book_tables.specs.Indices.{numbered, event_name, held_name, names_of};
+    ghost use Rattle.ln_book_tables.specs.Indices.{numbered, event_name, held_name, over_name, names_of};
 
     // A number in its channel.
     fn numbered(&self, id: u64) -> Key
@@ -68,6 +70,13 @@ impl Htlc {
         Some(self.numbered(number))
     }
 
+    // Its key, where nothing is left to be done about it.
+    fn over_name(&self) -> Option<Key>
+        ensures { result ≡ over_name self.now }
+    {
+        if self.is_over() { Some(self.key) } else { None }
+    }
+
     // By what it is found.
     fn names(&self) -> Names
         ensures { result ≡ names_of self.now }
@@ -77,6 +86,7 @@ impl Htlc {
             event: self.event_name(),
             held: self.held_name(),
             outgoing: self.outgoing.key(),
+            over: self.over_name(),
             due: self.is_due(),
         }
     }
@@ -92,6 +102,7 @@ pub(crate) fn names_in(slot: &Option<Htlc>) -> Names
             event: None,
             held: None,
             outgoing: None,
+            over: None,
             due: false,
         },
         Some(htlc) => htlc.names(),

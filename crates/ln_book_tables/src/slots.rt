@@ -176,12 +176,16 @@ fn is_over_in(slot: &Option<Htlc>) -> bool
     }
 }
 
-/// Leaves out those about which nothing is left to be done. Takes no memory.
+/// Leaves out those about which nothing is left to be done: by a walk over all, unless it is known that there is none.
+/// Takes no memory.
 pub(crate) fn leave_out_over(slots: &mut Vec<Option<Htlc>>, indices: &mut Indices)
     requires indexed { IsIndexed slots.old.items indices.old }
     ensures left { in_slots slots.new.items ≡ left_out is_over (in_slots slots.old.items) }
     ensures indexed { IsIndexed slots.new.items indices.new }
 {
+    if indices.has_none_over() {
+        return;
+    }
     slots.retain(|slot| !is_over_in(slot));
     index_all(slots.as_slice(), indices);
 }

@@ -34,6 +34,7 @@ returns-clause-joined c =
     ap in_slots c.push.ensures.pushed
     ∙ in_pushed c.leave_out.new.slots.items htlc
     ∙ ap (λ gs. gs ++ htlc ∷ []) c.leave_out.ensures.left
-    ∙ ap (λ m. left_out (is_htlc key) hs ++ (let h : Htlc = record (htlc_of d o) { mark = m } in h) ∷ []) c.requires.same
+    ∙ ap (λ m. left_out (is_htlc key) hs ++ (let h : Htlc = record (htlc_of d o) { mark = m } in h) ∷ [])
+    c.requires.same
     ∙ sym (ap (λ m. with_offer d m hs) c.in-Some.is
     ∙ ap (λ b. cond b hs (left_out (is_htlc key) hs ++ htlc_of d o ∷ [])) there)

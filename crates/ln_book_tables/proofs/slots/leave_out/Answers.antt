@@ -30,7 +30,8 @@ pub returns-else-is_picked_at-clause-left : goal.returns-else-is_picked_at-claus
 returns-else-is_picked_at-clause-left c =
     let p = picks c.args.which.now in
     let ss = c.args.slots.now.items in
-    none_left p ss (nowhere p ss (none_passes p ss c.in-At.place (subst (IsToldOf p ss) (sym c.told.ensures ∙ c.in-At.is)
+    none_left p ss (nowhere p ss (none_passes p ss c.in-At.place
+    (subst (IsToldOf p ss) (sym c.told.ensures ∙ c.in-At.is)
     (told_right c.args.which.now ss c.args.indices.now c.requires.indexed))
     (ap (λ xs. passes p (get_or xs c.in-At.place None)) (sym c.as_slice.ensures.value)
     ∙ sym c.is_picked_at.ensures ∙ c.if-is_picked_at.false)))

@@ -22,11 +22,18 @@ returns-clause-indexed c ss last indexed =
           ∙ sym (behind_joined (passes is_due) ss slot);
       room = omega (arith, length-append ss (slot ∷ []), last, c.requires.room, c.push_place.ensures.room);
       by_key = behind_push ss place slot (λ n. n.key) c.names_in-names.result
-          c.args.self.now.by_key c.enter_any.new.self last c.names_in-names.ensures refl c.enter_any.ensures indexed.by_key;
+          c.args.self.now.by_key c.enter_any.new.self last
+          c.names_in-names.ensures refl c.enter_any.ensures indexed.by_key;
       by_event = behind_push ss place slot (λ n. n.event) c.names_in-names.result
-          c.args.self.now.by_event c.enter_any-2.new.self last c.names_in-names.ensures refl c.enter_any-2.ensures indexed.by_event;
+          c.args.self.now.by_event c.enter_any-2.new.self last
+          c.names_in-names.ensures refl c.enter_any-2.ensures indexed.by_event;
       by_held = behind_push ss place slot (λ n. n.held) c.names_in-names.result
-          c.args.self.now.by_held c.enter_any-3.new.self last c.names_in-names.ensures refl c.enter_any-3.ensures indexed.by_held;
+          c.args.self.now.by_held c.enter_any-3.new.self last
+          c.names_in-names.ensures refl c.enter_any-3.ensures indexed.by_held;
       by_outgoing = behind_push ss place slot (λ n. n.outgoing) c.names_in-names.result
-          c.args.self.now.by_outgoing c.enter_any-4.new.self last c.names_in-names.ensures refl c.enter_any-4.ensures indexed.by_outgoing;
+          c.args.self.now.by_outgoing c.enter_any-4.new.self last
+          c.names_in-names.ensures refl c.enter_any-4.ensures indexed.by_outgoing;
+      by_over = behind_push ss place slot (λ n. n.over) c.names_in-names.result
+          c.args.self.now.by_over c.enter_any-5.new.self last
+          c.names_in-names.ensures refl c.enter_any-5.ensures indexed.by_over;
     }

@@ -26,4 +26,6 @@ returns-clause-indexed c ss s lt was is indexed = record {
       c.args.self.now.by_held c.replace-3.new.self lt was is c.replace-3.ensures indexed.by_held;
   by_outgoing = behind_replace ss c.args.place s (λ n. n.outgoing) c.args.before.now c.args.after.now
       c.args.self.now.by_outgoing c.replace-4.new.self lt was is c.replace-4.ensures indexed.by_outgoing;
+  by_over = behind_replace ss c.args.place s (λ n. n.over) c.args.before.now c.args.after.now
+      c.args.self.now.by_over c.replace-5.new.self lt was is c.replace-5.ensures indexed.by_over;
 }

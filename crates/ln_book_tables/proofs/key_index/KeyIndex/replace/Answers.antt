@@ -5,7 +5,8 @@ use Rattle.ln_book_tables.proofs.key_index.KeyIndex.replace.Goals as goal
 
 pub returns : goal.returns
 returns c at is indexed =
-    as_index (put_at c.args.place c.args.after.now (put_at c.args.place None at)) (put_at c.args.place c.args.after.now at)
+    as_index (put_at c.args.place c.args.after.now (put_at c.args.place None at))
+    (put_at c.args.place c.args.after.now at)
     c.enter_any.new.self (put_again at c.args.place None c.args.after.now)
     (c.enter_any.ensures (put_at c.args.place None at) (put_there at c.args.place None)
     (c.leave_any.ensures c.args.place at is indexed))
