@@ -44,13 +44,27 @@ pub enum Stage {
 /// It is new and without a connection at first; `connect` begins. A refusal by which a channel fails, 21 to 35 and 37,
 /// is kept, and answered from then on to all messages, and to all commands but `Decide` and `Forget`. Where memory is
 /// refused (60) it halts, and answers 62 to everything.
-#[derive(Drop)]
 pub struct ChannelMachine<K: ChannelKeys + Drop> {
     pub(crate) keys: K,
     pub(crate) connection: ConnectionState,
     pub(crate) halted: bool,
     pub(crate) failure: Option<Refusal>,
     pub(crate) stage: Stage,
+}
+
+// By hand: crates above don't prove again how its parts are dropped.
+impl<K: ChannelKeys + Drop> Drop for ChannelMachine<K> {
+    fn drop(self) {
+        let ChannelMachine {
+            keys,
+            connection: _,
+            halted: _,
+            failure: _,
+            stage,
+        } = self;
+        drop(keys);
+        drop(stage);
+    }
 }
 
 impl<K: ChannelKeys + Drop> Model for ChannelMachine<K> {

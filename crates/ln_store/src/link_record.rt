@@ -4,9 +4,16 @@ use crate::record::Items;
 use std::marker::Model;
 
 /// What is stored of one end of a channel, readable by its type: its items have their forms and fit together.
-#[derive(Drop)]
 pub struct LinkRecord {
     items: Items,
+}
+
+// By hand: crates above don't prove again how its items are dropped.
+impl Drop for LinkRecord {
+    fn drop(self) {
+        let LinkRecord { items } = self;
+        drop(items);
+    }
 }
 
 impl Model for LinkRecord {
@@ -38,7 +45,8 @@ impl LinkRecord {
         ensures has_the_items { result ≡ self }
         ensures is_readable { is_readable result ≡ true }
     {
-        self.items
+        let LinkRecord { items } = self;
+        items
     }
 
     /// The items.
