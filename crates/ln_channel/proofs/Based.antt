@@ -34,6 +34,22 @@ stays_whole : (us : List Update) (l : Ledger) → us ≡ [] → without_removed 
 stays_whole us l e =
     ap (λ x. without_removed x l) e ∙ ap (λ ds. record l { decisions = ds }) (all_open l.decisions)
 
+-- ---- where the base stands there already
+
+same_either : (b : Bool) (c d : Counts) → c ≡ d → cond b c d ≡ d
+same_either true c d e = e
+same_either false c d e = refl
+
+pub stays : (e : End) (to : Counts) → to ≡ allowed e → to ≡ e.dance.log.first → e ≡ based e
+stays e to is there =
+    ap (λ l. record e { ledger = l }) (sym (stays_whole (between e.dance.log.first.own e.dance.log.first.own
+    e.dance.log.own) e.ledger
+    (between_none e.dance.log.first.own e.dance.log.first.own e.dance.log.own (omega arith))))
+    ∙ sym (ap (λ (c : Counts). record e {
+      dance = with_log (record e.dance.log { first = c }) e.dance;
+      ledger = without_removed (between e.dance.log.first.own c.own e.dance.log.own) e.ledger;
+    }) (same_either (may_be_base e.dance.log (allowed e)) (allowed e) e.dance.log.first (sym is ∙ there)))
+
 -- ---- what is left
 
 left_so : (b : Bool) (to : Counts) (e : End) → false ≡ b

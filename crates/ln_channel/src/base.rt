@@ -1,6 +1,6 @@
 //! As an end is saved, the base of its updates moves on.
 
-ghost use Rattle.std.specs.Prelude.{◌≡◌, ◌≤◌};
+ghost use Rattle.std.specs.Prelude.{◌≡◌, ◌≤◌, IsTrue};
 ghost use Rattle.ln_log.specs.declared.log.Side.TheVariants as side;
 ghost use Rattle.ln_log.specs.Log.{between, count_of};
 ghost use Rattle.ln_channel.specs.Base.{least_own, least_peer};
@@ -66,6 +66,13 @@ fn entering(log: &UpdateLog, to: usize) -> &[Update]
     }
 }
 
+// Whether the base stands there already.
+fn is_base(log: &UpdateLog, to: Counts) -> bool
+    ensures { IsTrue result → to ≡ log.now.first }
+{
+    to.own == log.first(Side::Own) && to.peer == log.first(Side::Peer)
+}
+
 impl Channel {
     ghost use Rattle.std.specs.Prelude.{◌≡◌, ◌≤◌, length, OnOk, OnErr, IfErr};
     ghost use Rattle.ln_channel.specs.End.{End, StandsFor};
@@ -95,6 +102,9 @@ impl Channel {
         ensures same_channel { self.new.dance.channel ≡ self.old.dance.channel }
     {
         let to = self.allowed();
+        if is_base(self.dance.log(), to) {
+            return Ok(());
+        }
         let removed = removed_ids(alloc, entering(self.dance.log(), to.own))?;
         if !self.dance.advance(alloc, to)? {
             return Ok(());

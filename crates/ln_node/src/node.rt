@@ -33,15 +33,43 @@ use std::thread::Threads;
 /// A node of a payment channel network: channels by number, from 0, each with a reader of its connections, a worker
 /// that has its link and its store, and a dispatcher of its hooks, in threads of their own; and the book of the
 /// payments that it forwards. It runs until `stop`.
-#[derive(Drop)]
 pub struct Node<K: ChannelKeys + Copy, S: Drop, O: Drop, H: Drop, T: Drop, W: Drop = TcpStream> {
     stopping: Arc<AtomicU64>,
     pub(crate) common: Common<O>,
-    pub(crate) channels: Vec<ChannelThreads<NodeLink<K, S>, H, T, SharedBook<O>, W>>,
+    pub(crate) channels: Vec<NodeChannel<K, S, O, H, T, W>>,
     /// Their summaries.
     pub(crate) watches: Vec<Arc<Watch>>,
     // When new channels sign.
     pub(crate) signing: Signing,
+}
+
+/// A channel of a node with such keys, stores, onions, hooks, tables of hooks and connections.
+type NodeChannel<K, S, O, H, T, W> = ChannelThreads<NodeLink<K, S>, H, T, SharedBook<O>, W>;
+
+impl<K: ChannelKeys + Copy, S: Drop, O: Drop, H: Drop, T: Drop, W: Drop> Node<K, S, O, H, T, W> {
+    // Its channels; what else it has is dropped.
+    fn into_channels(self) -> Vec<NodeChannel<K, S, O, H, T, W>> {
+        let Node {
+            stopping,
+            common,
+            channels,
+            watches,
+            signing: _,
+        } = self;
+        drop(stopping);
+        drop(common);
+        drop(watches);
+        channels
+    }
+}
+
+// By hand: crates above don't prove again how its parts are dropped.
+impl<K: ChannelKeys + Copy, S: Drop, O: Drop, H: Drop, T: Drop, W: Drop> Drop
+    for Node<K, S, O, H, T, W>
+{
+    fn drop(self) {
+        drop(self.into_channels());
+    }
 }
 
 // What a new channel has of its node.
@@ -603,7 +631,7 @@ where
         R: Net<Stream = W> + Threads + Wait + Copy + Send + 'static,
     {
         self.halt(&rt);
-        for channel in self.channels {
+        for channel in self.into_channels() {
             drop(channel.end(&rt));
         }
     }
@@ -617,7 +645,7 @@ where
         self.halt(&rt);
         let mut stores = Vec::new(alloc);
         let mut are_kept = true;
-        for channel in self.channels {
+        for channel in self.into_channels() {
             let end = channel.end(&rt);
             if !keep(&mut stores, end.into_store()) {
                 are_kept = false;

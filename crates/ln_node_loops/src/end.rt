@@ -9,10 +9,11 @@ use std::alloc::Global;
 /// One end of a channel, with the store that it saves in. `State` is what it stands for, with that
 /// store; the loops look into neither.
 pub trait End {
-    ghost use Rattle.std.specs.Prelude.{◌≡◌, ℕ, List, [], Bool, Option, Result, Ok, IfOk, OnErr};
+    ghost use Rattle.std.specs.Prelude.{◌≡◌, ℕ, List, [], Bool, Option, Result, Ok, IfOk, IfErr, OnErr};
     ghost use Rattle.ln_channel.specs.declared.output.Output.{Output};
     ghost use Rattle.ln_hooks.specs.declared.event.ChannelEvent.{ChannelEvent};
     ghost use Rattle.ln_msgs.specs.declared.refusals.refusal.Refusal.{Refusal};
+    ghost use Rattle.ln_msgs.specs.declared.refusals.refusal.Refusal.TheVariants.{Memory};
     ghost use Rattle.ln_switch.specs.Seen.{Seen, channel_of, next_htlc};
     ghost use Rattle.ln_node_loops.specs.Act.{Act, Handles, Obeys, Connects, Drops, Loads};
     ghost use Rattle.ln_node_loops.specs.Sent.{listed, loaded};
@@ -57,9 +58,10 @@ pub trait End {
     fn load(&mut self, alloc: Global) -> Result<(), Refusal>
         ensures { acts (state self.old) Loads (loaded result) (state self.new) };
 
-    /// The events that aren't decided yet, each with its number.
+    /// The events that aren't decided yet, each with its number; 60 where there is no memory for them.
     fn pending_events(&self, alloc: Global) -> Result<Vec<(u64, ChannelEvent)>, Refusal>
-        ensures { IfOk result (λ v. v.items ≡ pending (state self.now)) };
+        ensures events { IfOk result (λ v. v.items ≡ pending (state self.now)) }
+        ensures fails_for_memory_alone { IfErr result (λ r. r ≡ Memory) };
 
     /// Whether it answers nothing any more.
     fn is_halted(&self) -> bool

@@ -28,7 +28,6 @@ use ln_relay::{Receives, Sends};
 use ln_switch::{answer_to, command_subject, waits};
 use std::alloc::Global;
 use std::sync::Wait;
-use std::thread;
 
 /// A worker with its seats: it takes from the first, puts events to the second, talks to the book by the third, and by
 /// the fourth replies to orders and learns whether it is to sign by itself.
@@ -366,11 +365,9 @@ where
         }
     }
 
-    // Waits where there was nothing to do.
+    // Waits where there was nothing to do; else it goes on at once.
     fn wait<R: Wait>(&self, rt: &R, sounds: u64, refused: u64, busy: bool) {
-        if busy {
-            thread::yield_now();
-        } else {
+        if !busy {
             self.book.wait(rt, sounds, refused);
         }
     }
