@@ -1,15 +1,13 @@
 //! Three nodes in a row, with a channel between each and the next.
 
-use crate::settings::{
-    AMOUNT, EXPIRY, KEYS, OFFERED, POLICY, PREIMAGE, SECRET, SHORT_IDS, TXIDS, fit_config,
-    fit_spec, onion,
-};
+use crate::payment::{AMOUNT, EXPIRY, OFFERED, PREIMAGE, SECRET, onion};
 use ln_bytes::{Bytes, ShortId};
 use ln_channel::Command;
 use ln_keys::{ToyKeys, ToyOnion, sha256_32};
 use ln_msgs::{Refusal, channel_id};
 use ln_node::{Node, Table};
 use ln_store::MemoryStore;
+use ln_toy_channels::{KEYS, POLICY, SHORT_IDS, TXIDS, fit_config, fit_spec};
 use std::alloc::Global;
 use std::io::{Read, Write};
 use std::net::{Net, OpenStream, SocketAddr};

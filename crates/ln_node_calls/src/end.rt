@@ -2,9 +2,9 @@
 
 use ln_bytes::ShortId;
 use ln_channel::FitConfig;
-use ln_demo::{KEYS, SHORT_IDS, TXIDS, fit_config};
 use ln_keys::ToyKeys;
 use ln_msgs::Refusal;
+use ln_toy_channels::{KEYS, SHORT_IDS, TXIDS, fit_config};
 use std::alloc::Global;
 
 /// An end, by numbers from 0.

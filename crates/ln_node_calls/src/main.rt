@@ -34,8 +34,6 @@
 //! | `shows E WORD` | by its summary E is so far: see watch.rt |
 //! | `trace NODE N` | from now on N steps of the node are kept at once |
 //! | `summary NODE K R` | a summary of channel K of the node is refused by R |
-//! | `demo` | what ln_demo plays, which prints three lines |
-//! | `demo veiled` | the same over connections that turn each bit |
 //! | `# ..` | nothing |
 //!
 //! E is an end: A0, B0, B1 or C0, by its node and the number of its channel there. While a line waits, lost connections
@@ -51,18 +49,13 @@ mod payment;
 mod proxy;
 mod row;
 mod store;
-mod veil;
 mod watch;
 
 use crate::gauge::{Gauged, NoHook, Watch};
 use crate::row::Row;
 use crate::store::FailingRecords;
-use crate::veil::Veil;
-use ln_demo::demo;
-use ln_msgs::Counted;
 use ln_node::Table;
 use ln_store::RecordStore;
-use std::io;
 use std::io::{BufRead, BufReader};
 use std::net::{Net, TcpListener, TcpStream};
 use std::process::ExitCode;
@@ -70,7 +63,7 @@ use std::sync::Wait;
 use std::thread::Threads;
 
 // Drives nodes line by line, and prints each. False where one is refused, or can't be read.
-fn drive<S, T, R, L>(rt: R, host: &HostRuntime, row: &mut Row<S, T, R>, lines: L) -> bool
+fn drive<S, T, R, L>(host: &HostRuntime, row: &mut Row<S, T, R>, lines: L) -> bool
 where
     S: RecordStore + Gauged + Drop + Send + 'static,
     T: Table<NoHook> + Gauged + Drop + Send + 'static,
@@ -83,15 +76,7 @@ where
         let Ok(line) = line else {
             return false;
         };
-        let done = match line.as_str() {
-            "demo" => demo(rt, host.alloc(), &mut Counted::new(io::writer(host))),
-            "demo veiled" => {
-                let veil = Veil { rt };
-                demo(veil, host.alloc(), &mut Counted::new(io::writer(host)))
-            }
-            line => row.serve(host.alloc(), line),
-        };
-        if let Err(refusal) = done {
+        if let Err(refusal) = row.serve(host.alloc(), line.as_str()) {
             let _ = println!(host; "line {number} refused {}", refusal.number());
             return false;
         }
@@ -114,7 +99,7 @@ where
         return false;
     };
     let mut row: Row<S, T, R> = row;
-    let done = drive(rt, host, &mut row, lines);
+    let done = drive(host, &mut row, lines);
     row.stop();
     done
 }

@@ -3,12 +3,12 @@
 use crate::frames::init_frame;
 use ln_bytes::Bytes;
 use ln_channel::{Command, FitSpec};
-use ln_demo::fit_spec;
 use ln_keys::ToyKeys;
 use ln_link::Link;
 use ln_msgs::{Counted, Incoming, Init, Message, Records, Refusal, decode};
 use ln_node::{Item, SavedLink, Socket, worker_turn};
 use ln_store::MemoryStore;
+use ln_toy_channels::fit_spec;
 use std::alloc::Global;
 use std::io;
 use std::io::{Read, Write};

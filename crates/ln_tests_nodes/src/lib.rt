@@ -1,5 +1,5 @@
 //! Tests of running nodes over loopback, by their public calls alone: hooks and workers beside each other, strangers,
-//! payments that wait. What lines can say stands in ln_node_calls.
+//! payments that wait, the demo. What lines can say stands in ln_node_calls.
 #![tactic(auto)]
 
 mod frames;
@@ -9,6 +9,8 @@ pub use frames::ping_frame;
 #[cfg(test)]
 mod client;
 #[cfg(test)]
+mod demo;
+#[cfg(test)]
 mod embedding;
 #[cfg(test)]
 mod openings;
@@ -16,3 +18,5 @@ mod openings;
 mod pair;
 #[cfg(test)]
 mod tests;
+#[cfg(test)]
+mod veil;

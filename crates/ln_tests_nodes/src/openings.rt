@@ -2,8 +2,8 @@
 
 use crate::client::Client;
 use crate::pair::{ToyNode, fundee, funder, stopped, wait_for_use};
-use ln_demo::{KEYS, TXIDS};
 use ln_msgs::Refusal;
+use ln_toy_channels::{KEYS, TXIDS};
 use std::alloc::Global;
 use std::io;
 use std::net::{Net, SocketAddr, TcpListener, TcpStream};

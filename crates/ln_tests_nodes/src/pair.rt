@@ -1,12 +1,12 @@
 //! Nodes that listen and connect, and what tests wait for.
 
 use ln_channel::Command;
-use ln_demo::{KEYS, POLICY, SHORT_IDS, TXIDS, fit_config, fit_spec};
 use ln_hooks::{Hook, HookTable};
 use ln_keys::{ChannelKeys, ToyKeys, ToyOnion};
 use ln_msgs::{Refusal, channel_id};
 use ln_node::Node;
 use ln_store::MemoryStore;
+use ln_toy_channels::{KEYS, POLICY, SHORT_IDS, TXIDS, fit_config, fit_spec};
 use std::alloc::Global;
 use std::net::{Net, SocketAddr, TcpListener, TcpStream};
 use std::sync::Wait;

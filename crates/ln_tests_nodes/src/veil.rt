@@ -9,20 +9,20 @@ use std::thread::Threads;
 
 /// The handle.
 #[derive(Clone, Copy)]
-pub struct Veil<R> {
+pub(crate) struct Veil<R> {
     /// The one that has the network.
-    pub rt: R,
+    pub(crate) rt: R,
 }
 
 /// A connection.
 #[derive(Drop)]
-pub struct VeiledStream {
+pub(crate) struct VeiledStream {
     stream: TcpStream,
 }
 
 /// What listens for them.
 #[derive(Drop)]
-pub struct VeiledListener {
+pub(crate) struct VeiledListener {
     listener: TcpListener,
 }
 
