@@ -1,7 +1,7 @@
 //! What is logged, line by line.
 
 use crate::{LoggedStore, log_trace};
-use ln_bytes::Fault;
+use ln_bytes::{Bytes, Fault};
 use ln_msgs::Refusal;
 use ln_node::{Notice, Step, Trace};
 use ln_store::{MemoryStore, RecordStore};
@@ -130,6 +130,58 @@ fn saves_are_timed_where_they_are_logged(rt: HostRuntime) -> Result<(), Fail> {
             bytes=3 micros=250",
         "[DEBUG lnlink::store] saved channel_id=abababababababababababababababababababababababababababababababab \
             bytes=4",
+    ];
+    expect(&rt, sink.into_lines(), &expected);
+    Ok(())
+}
+
+// A store that has no memory for any save.
+#[derive(Drop)]
+struct Full<S: Drop> {
+    inner: S,
+}
+
+impl<S: RecordStore + Drop> RecordStore for Full<S> {
+    ghost records = { λ s. S.records s.inner };
+
+    ghost failed = { λ s. S.failed s.inner };
+
+    fn save(&mut self, _alloc: Global, _id: &[u8; 32], _bytes: &[u8]) -> Result<(), Refusal> {
+        Err(Refusal::Memory)
+    }
+
+    fn load(&mut self, alloc: Global, id: &[u8; 32]) -> Result<Option<Bytes>, Refusal> {
+        self.inner.load(alloc, id)
+    }
+
+    fn ids(&mut self, alloc: Global) -> Result<Vec<[u8; 32]>, Refusal> {
+        self.inner.ids(alloc)
+    }
+
+    fn failures(&self) -> u64 {
+        self.inner.failures()
+    }
+}
+
+#[test]
+fn a_refused_save_is_logged_without_a_time(rt: HostRuntime) -> Result<(), Fail> {
+    let sink = Memory::new(rt.alloc());
+    let clock = Ticks {
+        reads: Cell::new(0),
+        most: 2,
+    };
+    let inner = Full {
+        inner: MemoryStore::new(rt.alloc()),
+    };
+    let mut store = LoggedStore::new(inner, Logged::new(&clock, Level::Info, &sink));
+    let answer = store.save(rt.alloc(), &[171; 32], &[5; 3]);
+    assert_eq!(rt; answer, Err(Refusal::Memory));
+    assert_eq!(rt; clock.reads.get(), 0);
+    assert_eq!(rt; store.ids(rt.alloc())?.len(), 0);
+    drop(store);
+    let expected = [
+        "[WARN  lnlink::store] save refused channel_id=abababababababababababababababababababababababababababababababab \
+            bytes=3 error=60",
     ];
     expect(&rt, sink.into_lines(), &expected);
     Ok(())
