@@ -7,7 +7,7 @@ use ln_bytes::{Bytes, Record};
 use ln_channel::{Command, FitSpec, OpenSpec, Output};
 use ln_keys::ToyKeys;
 use ln_link::Link;
-use ln_msgs::{Records, Refusal, encode, fits};
+use ln_msgs::{Message, Records, Refusal, encode, fits};
 use ln_store::MemoryStore;
 use std::alloc::Global;
 
@@ -55,16 +55,28 @@ fn funder_side(alloc: Global, len: usize) -> Result<Option<Box<Side<MemoryStore>
     Ok(Some(boxed(alloc, Side { link, store })?))
 }
 
+/// How many bytes a message has, where it can be written.
+fn len_of(alloc: Global, message: &Message) -> Result<usize, Refusal> {
+    if fits(message) {
+        Ok(encode(alloc, message)?.len())
+    } else {
+        Err(Refusal::FieldLength)
+    }
+}
+
 /// How many bytes the longest of these messages has, where all can be written.
-fn longest(alloc: Global, outputs: Vec<Output>) -> Result<usize, Refusal> {
+fn longest_of(alloc: Global, messages: &[Message]) -> Result<usize, Refusal> {
     let mut most = 0;
-    for message in messages_of(alloc, outputs)? {
-        if !fits(&message) {
-            return Err(Refusal::FieldLength);
-        }
-        most = encode(alloc, &message)?.len().max(most);
+    for message in messages {
+        most = len_of(alloc, message)?.max(most);
     }
     Ok(most)
+}
+
+/// The same of the messages among what is handed out.
+fn longest(alloc: Global, outputs: Vec<Output>) -> Result<usize, Refusal> {
+    let messages = messages_of(alloc, outputs)?;
+    longest_of(alloc, messages.as_slice())
 }
 
 /// The channel is open, and the funder shuts it with a script of so many bytes: how many bytes its `shutdown` has, how
