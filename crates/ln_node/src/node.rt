@@ -65,8 +65,7 @@ impl<K: ChannelKeys + Copy, S: Drop, O: Drop, H: Drop, T: Drop, W: Drop> Node<K,
 
 // By hand: crates above don't prove again how its parts are dropped.
 impl<K: ChannelKeys + Copy, S: Drop, O: Drop, H: Drop, T: Drop, W: Drop> Drop
-    for Node<K, S, O, H, T, W>
-{
+    for Node<K, S, O, H, T, W> {
     fn drop(self) {
         drop(self.into_channels());
     }
