@@ -180,8 +180,8 @@ fn a_refused_save_is_logged_without_a_time(rt: HostRuntime) -> Result<(), Fail> 
     assert_eq!(rt; store.ids(rt.alloc())?.len(), 0);
     drop(store);
     let expected = [
-        "[WARN  lnlink::store] save refused channel_id=abababababababababababababababababababababababababababababababab \
-            bytes=3 error=60",
+        "[WARN  lnlink::store] save refused \
+            channel_id=abababababababababababababababababababababababababababababababab bytes=3 error=60",
     ];
     expect(&rt, sink.into_lines(), &expected);
     Ok(())
