@@ -196,95 +196,143 @@ where
         Ok(())
     }
 
-    // What a line of two or three words has an end do.
-    fn does(&self, words: &[&str]) -> Result<(), Refusal> {
-        let end = end(at(words, 1))?;
-        match (at(words, 0), words.len()) {
-            ("cut", 2) => self.cut(end),
-            ("part", 2) => {
+    // What a line of two words has an end do.
+    fn does(&self, verb: &str, end: End) -> Result<(), Refusal> {
+        match verb {
+            "cut" => self.cut(end),
+            "part" => {
                 self.proxy(end)?.proxy.parted.store(1, Ordering::SeqCst);
                 self.cut(end)
             }
-            ("join", 2) => {
+            "join" => {
                 self.proxy(end)?.proxy.parted.store(0, Ordering::SeqCst);
                 Ok(())
             }
-            ("shut", 2) => {
+            "shut" => {
                 self.gauge(end)?.shuts.store(1, Ordering::SeqCst);
                 Ok(())
             }
-            ("says", 3) => {
-                let says = saying(at(words, 2))?;
+            "bury" => self.buries(end),
+            _ => Err(BAD),
+        }
+    }
+
+    // What one of three words does.
+    fn does_so(&self, verb: &str, end: End, how: &str) -> Result<(), Refusal> {
+        match verb {
+            "says" => {
+                let says = saying(how)?;
                 self.gauge(end)?.says.store(says, Ordering::SeqCst);
                 Ok(())
             }
-            ("resume", 3) => self.resume(end, number(at(words, 2))?),
-            ("fee", 3) => {
-                let rate = small(at(words, 2))?;
+            "resume" => self.resume(end, number(how)?),
+            "fee" => {
+                let rate = small(how)?;
                 self.insist(end, Command::Fee(u32::from(rate)))
+            }
+            "shows" => self.wait_for(end, how),
+            _ => Err(BAD),
+        }
+    }
+
+    // One of four.
+    fn does_so_much(&self, verb: &str, end: End, words: &[&str]) -> Result<(), Refusal> {
+        match verb {
+            "most" => self.has_at_most(end, at(words, 2), number(at(words, 3))?),
+            "wait" => self.wait(end, at(words, 2), number(at(words, 3))?),
+            "lose" => self.loses(words),
+            "burn" => self.burns(words),
+            _ => Err(BAD),
+        }
+    }
+
+    // What a line of one word has the nodes do.
+    fn act_together(&mut self, verb: &str) -> Result<(), Refusal> {
+        match verb {
+            "meet" => self.meet(),
+            "confirm" => self.confirm(),
+            "open" => {
+                self.meet()?;
+                self.confirm()
+            }
+            "stop" => {
+                self.stop();
+                Ok(())
             }
             _ => Err(BAD),
         }
     }
 
-    // What a line has several ends do, or whole nodes.
-    fn act(&mut self, words: &[&str]) -> Result<(), Refusal> {
-        match (at(words, 0), words.len()) {
-            ("#", _) => Ok(()),
-            ("listen", 2) => self.listen(small(at(words, 1))?),
-            ("meet", 1) => self.meet(),
-            ("confirm", 1) => self.confirm(),
-            ("open", 1) => {
-                self.meet()?;
-                self.confirm()
-            }
-            ("restart", 2) => self.restart(node(at(words, 1))?),
-            ("stop", 1) => {
-                self.stop();
-                Ok(())
-            }
-            ("looks", 2) => {
-                for _ in 0..number(at(words, 1))? {
+    // One of two words, of which the second is a number, a node, an end or when to sign.
+    fn act_by(&mut self, verb: &str, word: &str) -> Result<(), Refusal> {
+        match verb {
+            "listen" => self.listen(small(word)?),
+            "restart" => self.restart(node(word)?),
+            "looks" => {
+                for _ in 0..number(word)? {
                     self.look();
                 }
                 Ok(())
             }
-            ("expect", 3) => self.expect(side(at(words, 1))?.0, number(at(words, 2))?),
-            ("trace", 3) => self.trace(node(at(words, 1))?, number(at(words, 2))?),
-            ("shows", 3) => self.wait_for(end(at(words, 1))?, at(words, 2)),
-            ("summary", 4) => {
-                let channel = usize::from(small(at(words, 2))?);
-                self.refuses(node(at(words, 1))?, channel, small(at(words, 3))?)
-            }
-            ("reconnect", 4) => {
-                let channel = usize::from(small(at(words, 2))?);
-                self.reconnect(node(at(words, 1))?, channel, small(at(words, 3))?)
-            }
-            ("pay", 3 | 4) => self.pays(words),
-            ("ask", 5) => self.asks_to_pay_by(words),
-            ("order", 5) => self.asks_by(words),
-            ("lacks", 4) => {
-                let channel = usize::from(small(at(words, 2))?);
-                self.lacks(node(at(words, 1))?, channel, number(at(words, 3))?)
-            }
-            ("payments", 4) => self.asks_to_pay_all_by(words),
-            ("alone", 3 | 4) => self.signs_alone_by(words),
-            ("signing", 2) => {
-                self.set_signing(signing(at(words, 1))?);
+            "signing" => {
+                self.set_signing(signing(word)?);
                 Ok(())
             }
-            ("most", 4) => {
-                let most = number(at(words, 3))?;
-                self.has_at_most(end(at(words, 1))?, at(words, 2), most)
+            verb => self.does(verb, end(word)?),
+        }
+    }
+
+    // One of three.
+    fn act_by_two(&self, words: &[&str]) -> Result<(), Refusal> {
+        match at(words, 0) {
+            "pay" => self.pays(words),
+            "alone" => self.signs_alone_by(words),
+            "expect" => self.expect(side(at(words, 1))?.0, number(at(words, 2))?),
+            "trace" => self.trace(node(at(words, 1))?, number(at(words, 2))?),
+            verb => self.does_so(verb, end(at(words, 1))?, at(words, 2)),
+        }
+    }
+
+    // What a line of four words has a channel of a node do.
+    fn act_at(&self, verb: &str, node: usize, words: &[&str]) -> Result<(), Refusal> {
+        let channel = usize::from(small(at(words, 2))?);
+        match verb {
+            "summary" => self.refuses(node, channel, small(at(words, 3))?),
+            "reconnect" => self.reconnect(node, channel, small(at(words, 3))?),
+            _ => self.lacks(node, channel, number(at(words, 3))?),
+        }
+    }
+
+    // One of four.
+    fn act_by_three(&self, words: &[&str]) -> Result<(), Refusal> {
+        match at(words, 0) {
+            "pay" => self.pays(words),
+            "alone" => self.signs_alone_by(words),
+            "payments" => self.asks_to_pay_all_by(words),
+            verb @ ("summary" | "reconnect" | "lacks") => {
+                self.act_at(verb, node(at(words, 1))?, words)
             }
-            ("bury", 2) => self.buries(end(at(words, 1))?),
-            ("lose", 4) => self.loses(words),
-            ("burn", 4) => self.burns(words),
-            ("wait", 4) => {
-                let wanted = number(at(words, 3))?;
-                self.wait(end(at(words, 1))?, at(words, 2), wanted)
-            }
-            _ => self.does(words),
+            verb => self.does_so_much(verb, end(at(words, 1))?, words),
+        }
+    }
+
+    // One of five.
+    fn act_by_four(&self, words: &[&str]) -> Result<(), Refusal> {
+        match at(words, 0) {
+            "ask" => self.asks_to_pay_by(words),
+            "order" => self.asks_by(words),
+            _ => Err(BAD),
+        }
+    }
+
+    fn act(&mut self, words: &[&str]) -> Result<(), Refusal> {
+        match words.len() {
+            1 => self.act_together(at(words, 0)),
+            2 => self.act_by(at(words, 0), at(words, 1)),
+            3 => self.act_by_two(words),
+            4 => self.act_by_three(words),
+            5 => self.act_by_four(words),
+            _ => Err(BAD),
         }
     }
 
@@ -294,6 +342,9 @@ where
         for word in line.split(' ') {
             words.push(word)?;
         }
-        self.act(words.as_slice())
+        match at(words.as_slice(), 0) {
+            "#" => Ok(()),
+            _ => self.act(words.as_slice()),
+        }
     }
 }
