@@ -9,11 +9,11 @@ use ln_hooks::{Call, ChannelEvent, Hook, HookTable, How, Verdict};
 use ln_keys::{ToyKeys, ToyOnion, sha256_32};
 use ln_log::Limits;
 use ln_msgs::{Records, Refusal};
-use ln_node::{Answer, ChannelState, Node, Signing, Table};
+use ln_node::{Answer, ChannelState, ChannelSummary, Counters, Decided, Node, Signing, Table};
 use ln_store::RecordStore;
 use ln_trace::{LoggedStore, log_trace};
 use log::sink::Console;
-use log::{Level, Log, Logged};
+use log::{Level, Log, Logged, info};
 use std::alloc::Global;
 use std::net::{Net, SocketAddr, TcpListener, TcpStream};
 use std::process::ExitCode;
@@ -144,6 +144,14 @@ fn payment(alloc: Global) -> Result<Command, Refusal> {
     })
 }
 
+/// Logs what a node's channels hold, and what it has counted.
+fn log_state<L: Log>(log: &L, channels: &[ChannelSummary], counters: &Counters) {
+    for channel in channels {
+        info!(*log; own = channel.own_balance, peer = channel.peer_balance; "balances");
+    }
+    info!(*log; taken = counters.decided(Decided::Fulfil), saves = counters.saves(); "counted");
+}
+
 /// The two nodes. Which stores `S`, hooks `H` and tables `T` they have is said in `begin` alone: what is generic is
 /// proved quickly.
 #[derive(Drop)]
@@ -223,17 +231,22 @@ where
         Err(Refusal::GaveUp)
     }
 
-    /// Offers the payment. Errors: by what the payer's link refuses it; 65: a minute has passed.
+    /// Offers the payment, and looks each millisecond for the answer, as a program does that has more to do. Errors: by
+    /// what the link refuses it; 65: a minute has passed.
     fn offer(&self) -> Result<(), Refusal> {
         let rt = &self.rt;
         let Ok(ticket) = self.payer.ask(rt, 0, payment(self.host.alloc())?) else {
             return Err(Refusal::GaveUp);
         };
-        match self.payer.wait_for_answer(rt, ticket, 60_000) {
-            Answer::Done(_) => Ok(()),
-            Answer::Refused(refusal) => Err(refusal),
-            _ => Err(Refusal::GaveUp),
+        for _ in 0..60_000 {
+            match self.payer.answer(rt, ticket) {
+                Answer::Pending => thread::sleep(self.host, Duration::from_millis(1)),
+                Answer::Done(_) => return Ok(()),
+                Answer::Refused(refusal) => return Err(refusal),
+                Answer::Forgotten => break,
+            }
         }
+        Err(Refusal::GaveUp)
     }
 
     /// Pays, until `paid` isn't 0. Error 65: a minute has passed.
@@ -252,10 +265,13 @@ where
         Err(Refusal::GaveUp)
     }
 
-    /// Logs what a node has done.
+    /// Logs what a node has done, and what it has.
     fn report(&self, name: &str, node: &MyNode<S, H, T>) {
-        let trace = node.traced(&self.rt, self.host.alloc());
-        log_trace(&self.rt.span(name), &trace);
+        let (log, alloc) = (self.rt.span(name), self.host.alloc());
+        log_trace(&log, &node.traced(&self.rt, alloc));
+        if let Ok(channels) = node.channels(&self.rt, alloc) {
+            log_state(&log, &channels, node.counters());
+        }
     }
 
     /// Opens the channel, pays, and stops both nodes.

@@ -5,13 +5,13 @@ use crate::reader::Connections;
 use crate::seat::{PatientSeat, WakingSeat};
 use crate::signing::Signing;
 use crate::socket::Socket;
-use crate::start::{start_dispatcher, start_reader, start_worker};
+use crate::start::{Stores, start_dispatcher, start_reader, start_worker};
 use crate::wakeup::Wakeup;
 use crate::wakeups::ChannelWakeup;
 use ln_channel::Command;
 use ln_log::ChannelId;
 use ln_msgs::Message;
-use ln_node_loops::{End, Item, ReadsEnds, Table, Task, Worker, WorkerLoop, put};
+use ln_node_loops::{Item, ReadsEnds, Table, Task, Worker, WorkerLoop, put};
 use ln_relay::{RecvSeat, SendSeat, Sends, WaitRecv, WaitSend, relay, waiting_relay};
 use std::alloc::{AllocError, Global};
 use std::io::{Read, Write};
@@ -31,28 +31,18 @@ pub(crate) type ItemSeat<W> = WakingSeat<SendSeat<Item<Socket<W>>>>;
 /// That of a reader.
 pub(crate) type ReadSeat<W> = PatientSeat<ItemSeat<W>>;
 
-/// A worker with its seats.
-pub(crate) type EndLoop<E, H, B, W> = WorkerLoop<
-    E,
-    Socket<W>,
-    RecvSeat<Item<Socket<W>>>,
-    WaitSend<Task<H>>,
-    B,
-    OrderReplies,
->;
-
-/// A channel of a node, whose end is an `E`.
+/// A channel of a node, whose records are in an `S`. What its threads have is no part of it.
 #[derive(Drop)]
-pub(crate) struct ChannelThreads<E: Drop, H: Drop, T: Drop, B: Drop, W: Drop> {
+pub(crate) struct ChannelThreads<S: Drop, H: Drop, W: Drop> {
     wakeup: Arc<ChannelWakeup>,
     orders: Mutex<ItemSeat<W>>,
     answers: Arc<OrderAnswers>,
     hooks: Mutex<WaitSend<Task<H>>>,
     bound: Option<SocketAddr>,
     connections: Arc<Connections<W>>,
-    reader: JoinHandle<ReadSeat<W>>,
-    worker: JoinHandle<EndLoop<E, H, B, W>>,
-    dispatcher: JoinHandle<(WaitRecv<Task<H>>, T, B)>,
+    reader: JoinHandle<()>,
+    worker: JoinHandle<S>,
+    dispatcher: JoinHandle<()>,
 }
 
 /// What a new channel is made of.
@@ -109,40 +99,31 @@ fn register<H: Drop, R: Wait>(rt: &R, seat: &mut WaitSend<Task<H>>, hook: H) -> 
 }
 
 // Stops a dispatcher, and joins it.
-fn stop_dispatcher<H: Drop, T: Drop, B: Drop, R: Threads + Wait>(
+fn stop_dispatcher<H: Drop, R: Threads + Wait>(
     rt: &R,
     seat: WaitSend<Task<H>>,
-    dispatcher: JoinHandle<(WaitRecv<Task<H>>, T, B)>,
+    dispatcher: JoinHandle<()>,
 ) {
     let mut seat = seat;
     put(rt, &mut seat, Task::Stop);
-    drop(dispatcher.join(rt));
+    dispatcher.join(rt);
 }
 
-// Stops a worker, and joins it. Gives its end back.
-fn stop_worker<E: Drop, H: Drop, B: Drop, W: Drop, R: Threads + Wait>(
+// Stops a worker, and joins it. Gives its store back.
+fn stop_worker<S: Drop, W: Drop, R: Threads + Wait>(
     rt: &R,
     seat: ItemSeat<W>,
-    worker: JoinHandle<EndLoop<E, H, B, W>>,
-) -> E {
+    worker: JoinHandle<S>,
+) -> S {
     let mut seat = seat;
     put(rt, &mut seat, Item::Stop);
-    let WorkerLoop {
-        worker,
-        items: _,
-        tasks: _,
-        book: _,
-        orders: _,
-    } = worker.join(rt);
-    worker.end
+    worker.join(rt)
 }
 
-impl<E, H, T, B, W> ChannelThreads<E, H, T, B, W>
+impl<S, H, W> ChannelThreads<S, H, W>
 where
-    E: Drop,
+    S: Drop,
     H: Drop,
-    T: Drop,
-    B: Drop,
     W: Read + Write + OpenStream + Drop,
 {
     /// Hands a command to its worker, and gives the order's number; a full relay hands it back.
@@ -210,8 +191,8 @@ where
         self.connections.follow(rt, stream);
     }
 
-    /// Joins its threads, the reader first: it is shut. Gives its end back.
-    pub(crate) fn end<R: Threads + Wait>(self, rt: &R) -> E {
+    /// Joins its threads, the reader first: it is shut. Gives its store back.
+    pub(crate) fn end<R: Threads + Wait>(self, rt: &R) -> S {
         let ChannelThreads {
             wakeup: _,
             orders,
@@ -223,10 +204,10 @@ where
             worker,
             dispatcher,
         } = self;
-        drop(reader.join(rt));
-        let end = stop_worker(rt, orders.into_inner(), worker);
+        reader.join(rt);
+        let store = stop_worker(rt, orders.into_inner(), worker);
         stop_dispatcher(rt, hooks.into_inner(), dispatcher);
-        end
+        store
     }
 }
 
@@ -286,9 +267,10 @@ pub(crate) fn start<E, B, H, T, W, L, R>(
     rt: R,
     alloc: Global,
     parts: Parts<E, B, T, W, L>,
-) -> Result<ChannelThreads<E, H, T, B, W>, AllocError>
+) -> Result<ChannelThreads<E::Store, H, W>, AllocError>
 where
-    E: End + Drop + Send + 'static,
+    E: Stores + Drop + Send + 'static,
+    E::Store: Drop + Send + 'static,
     B: ReadsEnds<E> + Drop + Send + 'static,
     H: Drop + Send + 'static,
     T: Table<H> + Drop + Send + 'static,

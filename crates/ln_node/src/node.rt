@@ -9,6 +9,7 @@ use crate::observer::{Monitor, Observer};
 use crate::opening::NodeLink;
 use crate::reader::Connections;
 use crate::signing::Signing;
+use crate::start::Stores;
 use crate::stored::{Loaded, Stored, load_all, rebuilt_book};
 use crate::wakeups::{ChannelWakeup, Wakeups};
 use ln_book::Book;
@@ -20,11 +21,12 @@ use ln_hooks::Verdict;
 use ln_keys::{ChannelKeys, Onion};
 use ln_log::{ChannelId, Mark};
 use ln_msgs::{Init, Message, Records, Refusal};
-use ln_node_loops::{End, Notice, ReadsEnds, Table};
+use ln_node_loops::{Notice, ReadsEnds, Table};
 use ln_store::RecordStore;
 use ln_watch::Watch;
 use std::alloc::{AllocError, Global};
 use std::io::{Read, Write};
+use std::marker::PhantomData;
 use std::net::{Net, OpenListener, OpenStream, SocketAddr, TcpListener, TcpStream};
 use std::sync::atomic::{AtomicU64, Ordering};
 use std::sync::{Arc, Mutex, Wait};
@@ -36,25 +38,25 @@ use std::thread::Threads;
 pub struct Node<K: ChannelKeys + Copy, S: Drop, O: Drop, H: Drop, T: Drop, W: Drop = TcpStream> {
     stopping: Arc<AtomicU64>,
     pub(crate) common: Common<O>,
-    pub(crate) channels: Vec<NodeChannel<K, S, O, H, T, W>>,
+    pub(crate) channels: Vec<ChannelThreads<S, H, W>>,
     /// Their summaries.
     pub(crate) watches: Vec<Arc<Watch>>,
     // When new channels sign.
     pub(crate) signing: Signing,
+    // Which keys and tables of hooks its channels have: these are in their threads alone.
+    of: PhantomData<(K, T)>,
 }
-
-/// A channel of a node with such keys, stores, onions, hooks, tables of hooks and connections.
-type NodeChannel<K, S, O, H, T, W> = ChannelThreads<NodeLink<K, S>, H, T, SharedBook<O>, W>;
 
 impl<K: ChannelKeys + Copy, S: Drop, O: Drop, H: Drop, T: Drop, W: Drop> Node<K, S, O, H, T, W> {
     // Its channels; what else it has is dropped.
-    fn into_channels(self) -> Vec<NodeChannel<K, S, O, H, T, W>> {
+    fn into_channels(self) -> Vec<ChannelThreads<S, H, W>> {
         let Node {
             stopping,
             common,
             channels,
             watches,
             signing: _,
+            of: _,
         } = self;
         drop(stopping);
         drop(common);
@@ -144,13 +146,14 @@ where
 fn add<E, B, H, T, W, L, R>(
     rt: R,
     alloc: Global,
-    channels: &mut Vec<ChannelThreads<E, H, T, B, W>>,
+    channels: &mut Vec<ChannelThreads<E::Store, H, W>>,
     watches: &mut Vec<Arc<Watch>>,
     parts: Parts<E, B, T, W, L>,
     watch: Arc<Watch>,
 ) -> Result<(), Refusal>
 where
-    E: End + Drop + Send + 'static,
+    E: Stores + Drop + Send + 'static,
+    E::Store: Drop + Send + 'static,
     B: ReadsEnds<E> + Drop + Send + 'static,
     H: Drop + Send + 'static,
     T: Table<H> + Drop + Send + 'static,
@@ -221,6 +224,7 @@ where
             channels: Vec::new(alloc),
             watches: Vec::new(alloc),
             signing: Signing::WhenOrdered,
+            of: PhantomData,
         })
     }
 
@@ -645,8 +649,7 @@ where
         let mut stores = Vec::new(alloc);
         let mut are_kept = true;
         for channel in self.into_channels() {
-            let end = channel.end(&rt);
-            if !keep(&mut stores, end.into_store()) {
+            if !keep(&mut stores, channel.end(&rt)) {
                 are_kept = false;
             }
         }

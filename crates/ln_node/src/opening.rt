@@ -9,6 +9,7 @@ ghost use Rattle.ln_node.specs.Opening.{Begins, BeginsAnew, is_unopened, asks_to
 
 use crate::observed::ObservedStore;
 use crate::observer::Observer;
+use crate::start::Stores;
 use ln_bytes::{Bytes, Record};
 use ln_channel::{ChannelMachine, Command, Config, FitConfig, FitSpec, OpenSpec, Output};
 use ln_hooks::ChannelEvent;
@@ -232,9 +233,12 @@ impl<K: ChannelKeys + Copy, S: Drop> NodeLink<K, S> {
         let beginning = boxed(alloc, Beginning::Over)?;
         Ok(NodeLink { saved, beginning })
     }
+}
 
-    /// Its store.
-    pub(crate) fn into_store(self) -> S
+impl<K: ChannelKeys + Copy, S: RecordStore + Drop> Stores for NodeLink<K, S> {
+    type Store = S;
+
+    fn into_store(self) -> S
         ensures { result ≡ self.saved.value.store.inner }
     {
         let SavedLink {

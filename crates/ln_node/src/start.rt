@@ -1,4 +1,5 @@
-//! The threads of a channel, each started by a function of its own that is generic over what it carries.
+//! The threads of a channel, each started by a function of its own that is generic over what it carries. What a thread
+//! has is let go as it ends: who joins it knows nothing of its parts.
 
 use crate::reader::Connections;
 use crate::socket::Socket;
@@ -15,6 +16,35 @@ use std::sync::{Arc, Wait};
 use std::thread;
 use std::thread::{JoinHandle, Threads};
 
+/// An end whose store outlasts it.
+pub(crate) trait Stores: End {
+    /// The kind of store.
+    type Store;
+
+    /// Its store.
+    fn into_store(self) -> Self::Store;
+}
+
+// The store of a worker that has ended.
+fn store_of<E, W, I, T, B, A>(work: WorkerLoop<E, W, I, T, B, A>) -> E::Store
+where
+    E: Stores + Drop,
+    W: Drop,
+    I: Drop,
+    T: Drop,
+    B: Drop,
+    A: Drop,
+{
+    let WorkerLoop {
+        worker,
+        items: _,
+        tasks: _,
+        book: _,
+        orders: _,
+    } = work;
+    worker.end.into_store()
+}
+
 /// Starts the thread of a channel's connections.
 pub(crate) fn start_reader<S, L, W, R>(
     rt: R,
@@ -22,7 +52,7 @@ pub(crate) fn start_reader<S, L, W, R>(
     listener: Option<L>,
     seat: S,
     connections: Arc<Connections<W>>,
-) -> Option<JoinHandle<S>>
+) -> Option<JoinHandle<()>>
 where
     S: Sends<Item<Socket<W>>> + Drop + Send + 'static,
     L: OpenListener<Stream = W> + Drop + Send + 'static,
@@ -31,20 +61,21 @@ where
 {
     thread::spawn(
         &rt,
-        move || connections.read_all(&rt, alloc, listener, seat),
+        move || drop(connections.read_all(&rt, alloc, listener, seat)),
     )
     .ok()
 }
 
-/// Starts the thread of a channel's end.
+/// Starts the thread of a channel's end, which gives the end's store back.
 pub(crate) fn start_worker<E, W, I, H, T, B, A, R>(
     rt: R,
     alloc: Global,
     own_init: Box<Message>,
     work: WorkerLoop<E, W, I, T, B, A>,
-) -> Option<JoinHandle<WorkerLoop<E, W, I, T, B, A>>>
+) -> Option<JoinHandle<E::Store>>
 where
-    E: End + Drop + Send + 'static,
+    E: Stores + Drop + Send + 'static,
+    E::Store: Drop + Send + 'static,
     W: Closes + Drop + Send + 'static,
     I: Receives<Item<W>> + Drop + Send + 'static,
     H: Drop + Send + 'static,
@@ -55,7 +86,7 @@ where
 {
     thread::spawn(
         &rt,
-        move || worker_loop::<E, W, I, H, T, B, A, R>(&rt, alloc, &own_init, &[], work),
+        move || store_of(worker_loop::<E, W, I, H, T, B, A, R>(&rt, alloc, &own_init, &[], work)),
     )
     .ok()
 }
@@ -67,7 +98,7 @@ pub(crate) fn start_dispatcher<H, S, T, B, R>(
     seat: S,
     table: T,
     book: B,
-) -> Option<JoinHandle<(S, T, B)>>
+) -> Option<JoinHandle<()>>
 where
     H: Drop + Send + 'static,
     S: Waits<Task<H>> + Drop + Send + 'static,
@@ -77,7 +108,7 @@ where
 {
     thread::spawn(
         &rt,
-        move || dispatch_loop::<H, S, T, B, R>(&rt, alloc, seat, table, book),
+        move || drop(dispatch_loop::<H, S, T, B, R>(&rt, alloc, seat, table, book)),
     )
     .ok()
 }
