@@ -13,6 +13,7 @@ use ln_log::ChannelId;
 use ln_msgs::Message;
 use ln_node_loops::{Item, ReadsEnds, Table, Task, Worker, WorkerLoop, put};
 use ln_relay::{RecvSeat, SendSeat, Sends, WaitRecv, WaitSend, relay, waiting_relay};
+use ln_watch::Watch;
 use std::alloc::{AllocError, Global};
 use std::io::{Read, Write};
 use std::net::{Net, OpenListener, OpenStream, SocketAddr, TcpStream};
@@ -40,16 +41,15 @@ pub(crate) struct ChannelThreads<S: Drop, H: Drop, W: Drop> {
     hooks: Mutex<WaitSend<Task<H>>>,
     bound: Option<SocketAddr>,
     connections: Arc<Connections<W>>,
+    watch: Arc<Watch>,
     reader: JoinHandle<()>,
     worker: JoinHandle<S>,
     dispatcher: JoinHandle<()>,
 }
 
-/// What a new channel is made of.
+/// What a new channel has of its node.
 #[derive(Drop)]
-pub(crate) struct Parts<E: Drop, B: Drop, T: Drop, W: Drop, L: Drop> {
-    /// The end that its worker has.
-    pub(crate) end: E,
+pub(crate) struct Shares<B: Drop, W: Drop> {
     /// The init that greets its peer.
     pub(crate) own_init: Box<Message>,
     /// The node's book, as its worker reaches it.
@@ -62,9 +62,21 @@ pub(crate) struct Parts<E: Drop, B: Drop, T: Drop, W: Drop, L: Drop> {
     pub(crate) replies: OrderReplies,
     /// Its wake-up.
     pub(crate) wakeup: Arc<ChannelWakeup>,
+    /// Its connections.
+    pub(crate) connections: Arc<Connections<W>>,
+    /// Its summary.
+    pub(crate) watch: Arc<Watch>,
+}
+
+/// What a new channel is made of.
+#[derive(Drop)]
+pub(crate) struct Parts<E: Drop, B: Drop, T: Drop, W: Drop, L: Drop> {
+    /// The end that its worker has.
+    pub(crate) end: E,
+    /// What it has of its node.
+    pub(crate) shares: Shares<B, W>,
     /// The table of its hooks.
     pub(crate) table: T,
-    pub(crate) connections: Arc<Connections<W>>,
     /// Where its connections come to, where they don't go out.
     pub(crate) listener: Option<L>,
     pub(crate) bound: Option<SocketAddr>,
@@ -180,6 +192,11 @@ where
         }
     }
 
+    /// Its summary.
+    pub(crate) fn watch(&self) -> &Watch {
+        &self.watch
+    }
+
     /// Where it listens.
     pub(crate) fn bound(&self) -> Option<SocketAddr> {
         self.bound
@@ -200,6 +217,7 @@ where
             hooks,
             bound: _,
             connections: _,
+            watch: _,
             reader,
             worker,
             dispatcher,
@@ -278,7 +296,24 @@ where
     L: OpenListener<Stream = W> + Drop + Send + 'static,
     R: Threads + Wait + Copy + Send + 'static,
 {
-    let theirs = Arc::try_clone(&parts.connections)?;
+    let Parts {
+        end,
+        shares,
+        table,
+        listener,
+        bound,
+    } = parts;
+    let Shares {
+        own_init,
+        book,
+        decisions,
+        answers,
+        replies,
+        wakeup,
+        connections,
+        watch,
+    } = shares;
+    let theirs = Arc::try_clone(&connections)?;
     let Seats {
         first,
         orders,
@@ -286,20 +321,7 @@ where
         events,
         hooks,
         tasks,
-    } = new_seats::<H, W>(alloc, &parts.wakeup)?;
-    let Parts {
-        end,
-        own_init,
-        book,
-        decisions,
-        answers,
-        replies,
-        wakeup,
-        table,
-        connections,
-        listener,
-        bound,
-    } = parts;
+    } = new_seats::<H, W>(alloc, &wakeup)?;
     let work = WorkerLoop {
         worker: Worker::new(end),
         items,
@@ -339,6 +361,7 @@ where
         hooks: Mutex::new(hooks),
         bound,
         connections,
+        watch,
         reader,
         worker,
         dispatcher,

@@ -2,7 +2,7 @@
 
 use crate::asking::{OrderAnswers, OrderReplies};
 use crate::book::{Common, NodeBook, SharedBook};
-use crate::channel::{ChannelThreads, Parts, start};
+use crate::channel::{ChannelThreads, Parts, Shares, start};
 use crate::notices::Notices;
 use crate::observed::ObservedStore;
 use crate::observer::{Monitor, Observer};
@@ -39,8 +39,6 @@ pub struct Node<K: ChannelKeys + Copy, S: Drop, O: Drop, H: Drop, T: Drop, W: Dr
     stopping: Arc<AtomicU64>,
     pub(crate) common: Common<O>,
     pub(crate) channels: Vec<ChannelThreads<S, H, W>>,
-    /// Their summaries.
-    pub(crate) watches: Vec<Arc<Watch>>,
     // When new channels sign.
     pub(crate) signing: Signing,
     // Which keys and tables of hooks its channels have: these are in their threads alone.
@@ -54,13 +52,11 @@ impl<K: ChannelKeys + Copy, S: Drop, O: Drop, H: Drop, T: Drop, W: Drop> Node<K,
             stopping,
             common,
             channels,
-            watches,
             signing: _,
             of: _,
         } = self;
         drop(stopping);
         drop(common);
-        drop(watches);
         channels
     }
 }
@@ -71,19 +67,6 @@ impl<K: ChannelKeys + Copy, S: Drop, O: Drop, H: Drop, T: Drop, W: Drop> Drop
     fn drop(self) {
         drop(self.into_channels());
     }
-}
-
-// What a new channel has of its node.
-#[derive(Drop)]
-struct Shares<O: Drop, W: Drop> {
-    own_init: Box<Message>,
-    book: SharedBook<O>,
-    decisions: SharedBook<O>,
-    answers: Arc<OrderAnswers>,
-    replies: OrderReplies,
-    wakeup: Arc<ChannelWakeup>,
-    connections: Arc<Connections<W>>,
-    watch: Arc<Watch>,
 }
 
 // The init that greets peers (BOLT 1, "The `init` Message"): no features.
@@ -141,15 +124,13 @@ where
     Ok((Some(listener), Some(bound)))
 }
 
-// Starts a channel, as the last one, and keeps its summary. Generic in the end and the book: its ways out let them go,
-// and then it doesn't matter how deep they are.
+// Starts a channel, as the last one. Generic in the end and the book: its ways out let them go, and then it doesn't
+// matter how deep they are.
 fn add<E, B, H, T, W, L, R>(
     rt: R,
     alloc: Global,
     channels: &mut Vec<ChannelThreads<E::Store, H, W>>,
-    watches: &mut Vec<Arc<Watch>>,
     parts: Parts<E, B, T, W, L>,
-    watch: Arc<Watch>,
 ) -> Result<(), Refusal>
 where
     E: Stores + Drop + Send + 'static,
@@ -162,10 +143,8 @@ where
     R: Threads + Wait + Copy + Send + 'static,
 {
     channels.reserve(1)?;
-    watches.reserve(1)?;
     let channel = start(rt, alloc, parts)?;
     channels.push_reserved(channel);
-    watches.push_reserved(watch);
     Ok(())
 }
 
@@ -222,7 +201,6 @@ where
             stopping,
             common,
             channels: Vec::new(alloc),
-            watches: Vec::new(alloc),
             signing: Signing::WhenOrdered,
             of: PhantomData,
         })
@@ -270,7 +248,7 @@ where
         rt: &R,
         alloc: Global,
         end: &NodeLink<K, S>,
-    ) -> Result<Shares<O, W>, Refusal>
+    ) -> Result<Shares<SharedBook<O>, W>, Refusal>
         ensures reach_the_book { IfOk result (λ s. (begun_at s.book ≡ begun_of self.now)
             × (begun_at s.decisions ≡ begun_of self.now)) }
         ensures asks_by_the_policy { IfOk result (λ s. (handles.policy_of s.book.handle ≡ policy_of self.now)
@@ -311,7 +289,7 @@ where
         &mut self,
         rt: R,
         alloc: Global,
-        shares: Shares<O, W>,
+        shares: Shares<SharedBook<O>, W>,
         end: NodeLink<K, S>,
         table: T,
         listener: Option<L>,
@@ -322,37 +300,14 @@ where
         R: Threads + Wait + Copy + Send + 'static,
         ensures settings_stay { self.new.common ≡ self.old.common }
     {
-        let Shares {
-            own_init,
-            book,
-            decisions,
-            answers,
-            replies,
-            wakeup,
-            connections,
-            watch,
-        } = shares;
         let parts = Parts {
             end,
-            own_init,
-            book,
-            decisions,
-            answers,
-            replies,
-            wakeup,
+            shares,
             table,
-            connections,
             listener,
             bound,
         };
-        add(
-            rt,
-            alloc,
-            &mut self.channels,
-            &mut self.watches,
-            parts,
-            watch,
-        )
+        add(rt, alloc, &mut self.channels, parts)
     }
 
     /// Listens for the connections of a new channel, one after the other, as the fundee with this config, and answers

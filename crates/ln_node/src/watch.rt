@@ -36,9 +36,9 @@ where
         ensures is_that_of_a_link { IfOk result IsSummary }
         ensures fails_by_one_of_two { IfErr result (λ e. (e ≡ refusal.NotReady) ⊎ (e ≡ refusal.Memory)) }
     {
-        match self.watches.get(channel) {
+        match self.channels.get(channel) {
             None => Err(Refusal::NotReady),
-            Some(watch) => watch.summary(rt),
+            Some(channel) => channel.watch().summary(rt),
         }
     }
 
@@ -50,8 +50,8 @@ where
         ensures fails_for_memory_alone { IfErr result (λ e. e ≡ refusal.Memory) }
     {
         let mut all = Vec::new(alloc);
-        for watch in &self.watches {
-            all.push(watch.summary(rt)?)?;
+        for channel in &self.channels {
+            all.push(channel.watch().summary(rt)?)?;
         }
         Ok(all)
     }

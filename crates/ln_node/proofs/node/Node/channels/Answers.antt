@@ -4,8 +4,8 @@ use Rattle.std.specs.List.{All}
 use Rattle.ln_watch.specs.Summary.{IsSummary}
 use Rattle.ln_node.proofs.node.Node.channels.Goals as goal
 
-pub loop-watch-preserved : goal.loop-watch-preserved
-loop-watch-preserved g c =
+pub loop-channel-preserved : goal.loop-channel-preserved
+loop-channel-preserved g c =
     subst (All IsSummary) (sym c.in_ok-push.ensures.items)
-    (All-append IsSummary _ _ c.loop-watch.invariant
+    (All-append IsSummary _ _ c.loop-channel.invariant
     (All-cons IsSummary _ [] c.in_ok-summary.ensures.is_of_a_link (All-nil IsSummary)))

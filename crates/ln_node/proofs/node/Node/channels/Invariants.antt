@@ -3,5 +3,5 @@ use Rattle.ln_watch.specs.Summary.{IsSummary}
 use Rattle.ln_node.proofs.node.Node.channels.Given as goal
 
 -- those so far are of links
-abbrev pub invariant-loop-watch : goal.invariant-loop-watch
-invariant-loop-watch g l = All IsSummary l.all.items
+abbrev pub invariant-loop-channel : goal.invariant-loop-channel
+invariant-loop-channel g l = All IsSummary l.all.items
