@@ -4,6 +4,7 @@ use ln_bytes::{Bytes, tlvs_are_valid, tlvs_len};
 use ln_close::Fees;
 use ln_log::{Limits, MOST_HTLCS, Opening};
 use ln_msgs::Records;
+use std::alloc::AllocError;
 use std::marker::Model;
 
 /// `shutdown` has 36 bytes beside its script, and a message 65,535 at most.
@@ -28,7 +29,7 @@ pub struct Points {
 }
 
 /// What a side opens channels with, as funder or as fundee (BOLT 2, "Channel Establishment v1").
-#[derive(Clone, Drop)]
+#[derive(Drop)]
 pub struct Config {
     /// What it asks of the HTLCs that it is offered.
     pub limits: Limits,
@@ -53,7 +54,7 @@ pub struct Config {
 }
 
 /// What a funder opens one channel with.
-#[derive(Clone, Drop)]
+#[derive(Drop)]
 pub struct OpenSpec {
     /// What it opens channels with.
     pub config: Config,
@@ -73,6 +74,51 @@ pub struct OpenSpec {
     pub output: u16,
     /// The records of its `open_channel`.
     pub records: Records,
+}
+
+// By hand, as these all are: a copy is the same value, and a derived one would give up at each field.
+impl Clone for Config {
+    ghost use Rattle.std.specs.Prelude.{◌≡◌};
+
+    ghost is_clone = { λ c d. d ≡ c };
+
+    fn clone(&self) -> Result<Config, AllocError> {
+        let script = self.script.clone()?;
+        Ok(Config {
+            limits: self.limits,
+            chain_hash: self.chain_hash,
+            dust_limit: self.dust_limit,
+            to_self_delay: self.to_self_delay,
+            minimum_depth: self.minimum_depth,
+            points: self.points,
+            first: self.first,
+            least: self.least,
+            greatest: self.greatest,
+            script,
+        })
+    }
+}
+
+impl Clone for OpenSpec {
+    ghost use Rattle.std.specs.Prelude.{◌≡◌};
+
+    ghost is_clone = { λ s t. t ≡ s };
+
+    fn clone(&self) -> Result<OpenSpec, AllocError> {
+        let config = self.config.clone()?;
+        let records = self.records.clone()?;
+        Ok(OpenSpec {
+            config,
+            funding: self.funding,
+            push: self.push,
+            feerate: self.feerate,
+            flags: self.flags,
+            temporary_id: self.temporary_id,
+            txid: self.txid,
+            output: self.output,
+            records,
+        })
+    }
 }
 
 impl Config {
@@ -142,7 +188,7 @@ impl OpenSpec {
 }
 
 /// A `Config` that fits, by its type.
-#[derive(Clone, Drop)]
+#[derive(Drop)]
 pub struct FitConfig {
     config: Config,
 }
@@ -156,6 +202,17 @@ impl Model for FitConfig {
     ghost view = { λ c. c.config };
 
     ghost invariant = { λ c. IsFitConfig c.config };
+}
+
+impl Clone for FitConfig {
+    ghost use Rattle.std.specs.Prelude.{◌≡◌};
+
+    ghost is_clone = { λ c d. d ≡ c };
+
+    fn clone(&self) -> Result<FitConfig, AllocError> {
+        let config = self.config.clone()?;
+        Ok(FitConfig { config })
+    }
 }
 
 impl FitConfig {
@@ -188,7 +245,7 @@ impl FitConfig {
 }
 
 /// An `OpenSpec` that fits, by its type.
-#[derive(Clone, Drop)]
+#[derive(Drop)]
 pub struct FitSpec {
     spec: OpenSpec,
 }
@@ -202,6 +259,17 @@ impl Model for FitSpec {
     ghost view = { λ s. s.spec };
 
     ghost invariant = { λ s. IsFitSpec s.spec };
+}
+
+impl Clone for FitSpec {
+    ghost use Rattle.std.specs.Prelude.{◌≡◌};
+
+    ghost is_clone = { λ s t. t ≡ s };
+
+    fn clone(&self) -> Result<FitSpec, AllocError> {
+        let spec = self.spec.clone()?;
+        Ok(FitSpec { spec })
+    }
 }
 
 impl FitSpec {

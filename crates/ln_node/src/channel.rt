@@ -296,6 +296,15 @@ where
     L: OpenListener<Stream = W> + Drop + Send + 'static,
     R: Threads + Wait + Copy + Send + 'static,
 {
+    let theirs = Arc::try_clone(&parts.shares.connections)?;
+    let Seats {
+        first,
+        orders,
+        items,
+        events,
+        hooks,
+        tasks,
+    } = new_seats::<H, W>(alloc, &parts.shares.wakeup)?;
     let Parts {
         end,
         shares,
@@ -313,15 +322,6 @@ where
         connections,
         watch,
     } = shares;
-    let theirs = Arc::try_clone(&connections)?;
-    let Seats {
-        first,
-        orders,
-        items,
-        events,
-        hooks,
-        tasks,
-    } = new_seats::<H, W>(alloc, &wakeup)?;
     let work = WorkerLoop {
         worker: Worker::new(end),
         items,

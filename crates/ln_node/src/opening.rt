@@ -10,13 +10,12 @@ ghost use Rattle.ln_node.specs.Opening.{Begins, BeginsAnew, is_unopened, asks_to
 use crate::observed::ObservedStore;
 use crate::observer::Observer;
 use crate::start::Stores;
-use ln_bytes::{Bytes, Record};
-use ln_channel::{ChannelMachine, Command, Config, FitConfig, FitSpec, OpenSpec, Output};
+use ln_channel::{ChannelMachine, Command, FitConfig, FitSpec, Output};
 use ln_hooks::ChannelEvent;
 use ln_keys::ChannelKeys;
 use ln_link::Link;
 use ln_log::ChannelId;
-use ln_msgs::{Message, Records, Refusal};
+use ln_msgs::{Message, Refusal};
 use ln_node_loops::{End, SavedLink};
 use ln_store::RecordStore;
 use std::alloc::Global;
@@ -44,41 +43,6 @@ pub(crate) struct NodeLink<K: ChannelKeys + Copy, S: Drop> {
 
 // ---- a new link
 
-// The same settings. Error: 60 alone.
-fn copy_config(config: &Config) -> Result<Config, Refusal>
-    ensures copy { IfOk result (λ c. c ≡ config.now) }
-    ensures fails_for_memory_alone { IfErr result (λ r. r ≡ refusal.Memory) }
-{
-    Ok(config.clone()?)
-}
-
-// The same records. Error: 60 alone.
-fn copy_records(records: &Records) -> Result<Records, Refusal>
-    ensures copy { IfOk result (λ r. r ≡ records.now) }
-    ensures fails_for_memory_alone { IfErr result (λ r. r ≡ refusal.Memory) }
-{
-    Ok(records.clone()?)
-}
-
-// The same of what a funder opens a channel with. Error: 60 alone.
-fn copy_spec(spec: &FitSpec) -> Result<FitSpec, Refusal>
-    ensures copy { IfOk result (λ s. s ≡ spec.now) }
-    ensures fails_for_memory_alone { IfErr result (λ r. r ≡ refusal.Memory) }
-{
-    let spec = spec.get();
-    Ok(FitSpec::new(OpenSpec {
-        config: copy_config(&spec.config)?,
-        funding: spec.funding,
-        push: spec.push,
-        feerate: spec.feerate,
-        flags: spec.flags,
-        temporary_id: spec.temporary_id,
-        txid: spec.txid,
-        output: spec.output,
-        records: copy_records(&spec.records)?,
-    }))
-}
-
 // The link that begins so. 40 where there is none; 60 where there is no memory.
 fn new_link<K: ChannelKeys + Copy>(keys: K, beginning: &Beginning) -> Result<Link<K>, Refusal>
     ensures { Begins keys beginning.now result }
@@ -88,7 +52,7 @@ fn new_link<K: ChannelKeys + Copy>(keys: K, beginning: &Beginning) -> Result<Lin
             Ok(config) => Ok(Link::fundee(keys, config)),
             Err(_) => Err(Refusal::Memory),
         },
-        Beginning::Funder(spec) => match copy_spec(spec) {
+        Beginning::Funder(spec) => match spec.clone() {
             Ok(spec) => Ok(Link::funder(keys, spec)),
             Err(_) => Err(Refusal::Memory),
         },
