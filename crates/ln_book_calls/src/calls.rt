@@ -11,7 +11,7 @@ use ln_forward::Policy;
 use ln_hooks::{ChannelEvent, FailureCode, How, Msat, Verdict};
 use ln_keys::{ToyOnion, sha256_32};
 use ln_msgs::Refusal;
-use ln_tests_links::{at, bytes_of, code, numbers, wide};
+use ln_tests_ends::{at, bytes_of, code, numbers, wide};
 use std::alloc::{AllocError, Global};
 
 fn shown(alloc: Global, outcome: Result<(), Refusal>) -> Result<String, AllocError> {

@@ -5,7 +5,7 @@ use ln_channel::{Channel, ChannelMachine, Command, FitConfig, FitSpec, OpenSpec,
 use ln_hooks::ChannelEvent;
 use ln_keys::ToyKeys;
 use ln_msgs::{Message, Records, Refusal};
-use ln_tests_links::{CHEAP, boxed, config, push};
+use ln_tests_ends::{CHEAP, boxed, config, push};
 use std::alloc::Global;
 
 type End = ChannelMachine<ToyKeys>;

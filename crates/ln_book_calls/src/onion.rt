@@ -4,7 +4,7 @@ ghost use Rattle.std.specs.Prelude.{◌≤◌};
 
 use ln_bytes::Bytes;
 use ln_keys::ToyOnion;
-use ln_tests_links::at;
+use ln_tests_ends::at;
 use std::alloc::{AllocError, Global};
 
 /// Appends a number without leading zeros.

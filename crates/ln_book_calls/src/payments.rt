@@ -5,7 +5,7 @@ use ln_bytes::Bytes;
 use ln_hooks::{ChannelEvent, How, Msat, Verdict};
 use ln_keys::{Onion, OpenFault, Opened};
 use ln_msgs::Refusal;
-use ln_tests_links::{at, bytes_of};
+use ln_tests_ends::{at, bytes_of};
 use std::alloc::Global;
 
 /// An onion whose payload is known, and which goes on as it is.

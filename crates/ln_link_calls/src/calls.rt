@@ -8,7 +8,7 @@ use crate::show::{pending, record, refused, shown, stand, told_by_record};
 use ln_bytes::Fault;
 use ln_msgs::{Incoming, Message, decode};
 use ln_store::RecordStore;
-use ln_tests_links::{at, numbers};
+use ln_tests_ends::{at, numbers};
 use std::alloc::{AllocError, Global};
 use std::fmt::Write;
 

@@ -5,7 +5,7 @@ use crate::commands::command;
 use crate::end::End;
 use crate::opening::{USUAL, fundee, funder};
 use crate::show::shown;
-use ln_tests_links::numbers;
+use ln_tests_ends::numbers;
 use std::alloc::{AllocError, Global};
 use std::mem;
 

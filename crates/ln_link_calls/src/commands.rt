@@ -7,7 +7,7 @@ use ln_bytes::{Bytes, ShortId};
 use ln_channel::Command;
 use ln_keys::sha256_32;
 use ln_log::Mark;
-use ln_tests_links::{at, bytes_of, code, wide};
+use ln_tests_ends::{at, bytes_of, code, wide};
 use std::alloc::{AllocError, Global};
 
 /// What is done about an event: nothing, a forward to channel 7, a failure, a malformed one, a fulfilment; or its HTLC

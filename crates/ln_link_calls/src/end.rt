@@ -5,7 +5,7 @@ use ln_keys::ToyKeys;
 use ln_link::Link;
 use ln_msgs::{Message, Refusal, encode, fits};
 use ln_store::{MemoryStore, RecordStore};
-use ln_tests_links::FailingStore;
+use ln_tests_ends::FailingStore;
 use std::alloc::{AllocError, Global};
 use std::collections::VecDeque;
 

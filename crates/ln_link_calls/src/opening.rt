@@ -8,7 +8,7 @@ use ln_keys::ToyKeys;
 use ln_link::Link;
 use ln_log::Limits;
 use ln_msgs::Records;
-use ln_tests_links::{at, bytes_of, code};
+use ln_tests_ends::{at, bytes_of, code};
 use std::alloc::{AllocError, Global};
 
 /// What a line doesn't say of a side: its points are bytes from one on, its script is one byte.

@@ -1,12 +1,10 @@
 //! Orders that are answered.
 
-use crate::end::End;
-use crate::gauge::{Gauged, NoHook};
-use crate::payment::{FEE, order};
 use crate::row::Row;
 use ln_channel::Command;
 use ln_msgs::Refusal;
 use ln_node::{Answer, Signing, Table, Ticket};
+use ln_node_faults::{End, FEE, Gauged, NoHook, order};
 use ln_store::RecordStore;
 use std::net::{Net, TcpListener, TcpStream};
 use std::sync::Wait;

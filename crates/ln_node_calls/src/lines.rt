@@ -1,113 +1,18 @@
 //! The lines, one by one.
 
 use crate::asking::Wanted;
-use crate::end::{A0, B0, B1, C0, End};
-use crate::gauge::{CONTINUE, Gauged, HOLD, NoHook};
-use crate::payment::FEE;
 use crate::row::Row;
-use ln_bytes::Bytes;
+use crate::words::{BAD, at, command, end, node, number, saying, side, signing, small};
 use ln_channel::Command;
-use ln_hooks::FailureCode;
 use ln_msgs::Refusal;
-use ln_node::{Signing, Table};
+use ln_node::Table;
+use ln_node_faults::{A0, C0, End, FEE, Gauged, NoHook};
 use ln_store::RecordStore;
 use std::alloc::Global;
 use std::net::{Net, TcpListener, TcpStream};
 use std::sync::Wait;
 use std::sync::atomic::Ordering;
 use std::thread::Threads;
-
-const BAD: Refusal = Refusal::BadScript { line: 0 };
-
-// The word at a place; the empty one after the last.
-fn at<'a>(words: &[&'a str], place: usize) -> &'a str {
-    match words.get(place) {
-        Some(word) => word,
-        None => "",
-    }
-}
-
-// The number of a word.
-fn number(word: &str) -> Result<u64, Refusal> {
-    match word.parse::<u64>() {
-        Ok(number) => Ok(number),
-        Err(_) => Err(BAD),
-    }
-}
-
-// The same of at most 65,535.
-fn small(word: &str) -> Result<u16, Refusal> {
-    match word.parse::<u16>() {
-        Ok(number) => Ok(number),
-        Err(_) => Err(BAD),
-    }
-}
-
-// The end of a word.
-fn end(word: &str) -> Result<End, Refusal> {
-    match word {
-        "A0" => Ok(A0),
-        "B0" => Ok(B0),
-        "B1" => Ok(B1),
-        "C0" => Ok(C0),
-        _ => Err(BAD),
-    }
-}
-
-// The end of a payer or a payee, and the block of the channel that leads to the other one.
-fn side(word: &str) -> Result<(End, u8), Refusal> {
-    match word {
-        "A" => Ok((A0, 2)),
-        "C" => Ok((C0, 1)),
-        _ => Err(BAD),
-    }
-}
-
-// The number of a node.
-fn node(word: &str) -> Result<usize, Refusal> {
-    match word {
-        "A" => Ok(0),
-        "B" => Ok(1),
-        "C" => Ok(2),
-        _ => Err(BAD),
-    }
-}
-
-// What a hook is to say.
-fn saying(word: &str) -> Result<u64, Refusal> {
-    match word {
-        "continue" => Ok(CONTINUE),
-        "hold" => Ok(HOLD),
-        code => {
-            let number = small(code)?;
-            if FailureCode::new(number).is_some() {
-                Ok(u64::from(number))
-            } else {
-                Err(BAD)
-            }
-        }
-    }
-}
-
-// A command by its word.
-fn command(alloc: Global, word: &str) -> Result<Command, Refusal> {
-    match word {
-        "sign" => Ok(Command::Sign),
-        "fee" => Ok(Command::Fee(300)),
-        "shut" => Ok(Command::Shutdown(Bytes::empty(alloc))),
-        "forget" => Ok(Command::Forget(0)),
-        _ => Err(BAD),
-    }
-}
-
-// When nodes sign.
-fn signing(word: &str) -> Result<Signing, Refusal> {
-    match word {
-        "ordered" => Ok(Signing::WhenOrdered),
-        "idle" => Ok(Signing::WhenIdle),
-        _ => Err(BAD),
-    }
-}
 
 // What is to become of an order.
 fn wanted(word: &str, number: u64) -> Result<Wanted, Refusal> {

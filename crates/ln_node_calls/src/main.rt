@@ -29,8 +29,8 @@
 //! | `restart A`, .. | the node starts again from its stores |
 //! | `fee E RATE`, `shut E` | E changes the feerate; it is to shut down |
 //! | `looks N`, `stop` | so much time passes; the nodes stop |
-//! | `wait E WORD COUNT` | E's count is so: see gauge.rt, and `usable`, `held`, `lost` connections, `signed` |
-//! | | .. what E's summary or its node's counters tell is so: see watch.rt |
+//! | `wait E WORD COUNT` | E's count is so: see gauge.rt of ln_node_faults, and `usable`, `held`, `lost` connections, `signed` |
+//! | | .. what E's summary or its node's counters tell is so: watch.rt |
 //! | `shows E WORD` | by its summary E is so far: see watch.rt |
 //! | `trace NODE N` | from now on N steps of the node are kept at once |
 //! | `summary NODE K R` | a summary of channel K of the node is refused by R |
@@ -42,19 +42,14 @@
 #![tactic(auto)]
 
 mod asking;
-mod end;
-mod gauge;
 mod lines;
-mod payment;
-mod proxy;
+mod news;
 mod row;
-mod store;
-mod watch;
+mod words;
 
-use crate::gauge::{Gauged, NoHook, Watch};
 use crate::row::Row;
-use crate::store::FailingRecords;
 use ln_node::Table;
+use ln_node_faults::{FailingRecords, Gauged, NoHook, Watch};
 use ln_store::RecordStore;
 use std::io::{BufRead, BufReader};
 use std::net::{Net, TcpListener, TcpStream};

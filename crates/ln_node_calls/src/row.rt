@@ -1,16 +1,16 @@
 //! Three nodes in a row: A has a channel with B, and B one with C.
 
-use crate::end::{A0, B0, B1, C0, ENDS, End, config};
-use crate::gauge::{Gauge, Gauged, NoHook};
-use crate::payment::{AMOUNT, SECRET, order, preimage};
-use crate::proxy::{OpenProxy, loopback};
-use crate::watch::{counted, is_refused, state_word, value_of};
+use crate::news::{count_notice, count_step};
 use ln_bytes::Bytes;
 use ln_channel::Command;
 use ln_hooks::Verdict;
 use ln_keys::{ToyKeys, ToyOnion};
 use ln_msgs::{Refusal, channel_id};
 use ln_node::{Node, Signing, Stored, Table, Ticket};
+use ln_node_faults::{
+    A0, AMOUNT, B0, B1, C0, ENDS, End, Gauge, Gauged, NoHook, OpenProxy, SECRET, config, counted,
+    is_refused, loopback, order, preimage, state_word, value_of,
+};
 use ln_store::RecordStore;
 use ln_toy_channels::{POLICY, fit_spec};
 use std::alloc::{AllocError, Global};
@@ -218,7 +218,7 @@ where
         for (channel, notice) in it.notices(&self.rt, self.alloc) {
             if let Some(end) = end_of(node, channel) {
                 if let Ok(gauge) = self.gauge(end) {
-                    gauge.at_notice(notice);
+                    count_notice(gauge, notice);
                 }
             }
         }
@@ -233,7 +233,7 @@ where
         for (channel, step) in trace.steps.as_slice() {
             if let Some(end) = end_of(node, *channel) {
                 if let Ok(gauge) = self.gauge(end) {
-                    gauge.at_step(step);
+                    count_step(gauge, step);
                 }
             }
         }

@@ -101,10 +101,17 @@ fn items_of(alloc: Global, version: u16, body: &[u8]) -> Result<Items, Refusal>
     ensures is_readable { IfOk result (λ i. is_readable i ≡ true) }
 {
     let (items, rest) = Items::read(alloc, body)?;
-    let whole = are_whole(alloc, version, &items, rest)?;
+    let whole = match are_whole(alloc, version, &items, rest) {
+        Ok(whole) => whole,
+        Err(refusal) => {
+            drop(items);
+            return Err(refusal);
+        }
+    };
     if whole {
         Ok(items)
     } else {
+        drop(items);
         Err(Refusal::Damaged)
     }
 }

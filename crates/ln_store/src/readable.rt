@@ -1,6 +1,6 @@
 //! Whether items may stand in a record.
 
-ghost use Rattle.std.specs.Prelude.{◌≡◌, ◌∷◌, Ok, Some, None, IfOk, IfErr, if◌then◌else◌};
+ghost use Rattle.std.specs.Prelude.{◌≡◌, ◌∷◌, ◌⊎◌, Ok, Err, Some, None, IfOk, IfErr, if◌then◌else◌};
 ghost use Rattle.ln_bytes.specs.Reading.{Gives};
 ghost use Rattle.ln_msgs.specs.Messages.Message.{message_at};
 ghost use Rattle.ln_msgs.specs.Messages.Typed.{heard};
@@ -25,15 +25,26 @@ const MOST_SATOSHIS: u64 = 2_100_000_000_000_000;
 /// The most events of one end: 2^62 updates of either side, and the close.
 const MOST_EVENTS: u64 = 9_223_372_036_854_775_809;
 
+// What is said, in a box: who owns it knows nothing of its parts.
+fn boxed<T: Drop>(alloc: Global, said: Result<T, Fault>) -> Result<Box<T>, Fault>
+    ensures same { IfOk result (λ b. said ≡ Ok b.value) }
+    ensures same_fault { IfErr result (λ e. e ≡ Fault.Memory ⊎ (said ≡ Err e)) }
+{
+    match said {
+        Ok(said) => Ok(Box::new(alloc, said)?),
+        Err(fault) => Err(fault),
+    }
+}
+
 // What a message of this type with this payload says.
-fn said_by(alloc: Global, typ: u8, payload: &[u8]) -> Result<Incoming, Fault>
-    ensures { Gives heard result (message_at (0 ∷ typ ∷ payload.now)) }
+fn said_by(alloc: Global, typ: u8, payload: &[u8]) -> Result<Box<Incoming>, Fault>
+    ensures { Gives (λ b. heard b.value) result (message_at (0 ∷ typ ∷ payload.now)) }
 {
     let mut bytes = Vec::with_capacity(alloc, 2)?;
     bytes.push(0)?;
     bytes.push(typ)?;
     bytes.extend_from_slice(payload)?;
-    decode(alloc, bytes.as_slice())
+    boxed(alloc, decode(alloc, bytes.as_slice()))
 }
 
 // The funding, in satoshi, where it is an `open_channel` and that is in its range.

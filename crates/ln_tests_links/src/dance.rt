@@ -1,11 +1,11 @@
 //! Two sides that dance over toy keys. What stands in hex was computed by a separate Python program over hashlib.
 
-use crate::ends::{FUNDEE, FUNDER, boxed, htlc};
 use crate::testing::{bytes_of, message_of, point_of, side, signature_of};
 use ln_dance::{Dance, Later, Numbers, Peer, update_of};
 use ln_keys::{ChannelKeys, Role, ToyKeys};
 use ln_log::{Pair, Update};
 use ln_msgs::{CommitmentSigned, Refusal, RevokeAndAck};
+use ln_tests_ends::{FUNDEE, FUNDER, boxed, htlc};
 use std::alloc::Global;
 
 /// What a turn shows: the signature, and the revocation's secret and point.

@@ -1,14 +1,15 @@
 //! The longest messages of a channel, and the record that has them.
 
-use crate::code_of;
-use crate::ends::{FUNDER, Side, boxed, fundee_side, messages_of, open_spec, played, stored};
-use crate::testing::put;
+use crate::put;
 use ln_bytes::{Bytes, Record};
 use ln_channel::{Command, FitSpec, OpenSpec, Output};
 use ln_keys::ToyKeys;
 use ln_link::Link;
 use ln_msgs::{Message, Records, Refusal, encode, fits};
 use ln_store::MemoryStore;
+use ln_tests_ends::{
+    FUNDER, Side, boxed, code_of, fundee_side, messages_of, open_spec, played, stored,
+};
 use std::alloc::Global;
 
 /// So many zeros.

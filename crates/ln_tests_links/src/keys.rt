@@ -1,6 +1,5 @@
 //! Keys and onions. What stands in hex was computed by a separate Python program over hashlib.
 
-use crate::ends::{FUNDEE, FUNDER};
 use crate::testing::{bytes_of, point_of, signature_of};
 use ln_bytes::Bytes;
 use ln_keys::{
@@ -8,6 +7,7 @@ use ln_keys::{
     partner_accepts, partner_accepts_close, partner_secret_fits, sha256_32,
 };
 use ln_msgs::Refusal;
+use ln_tests_ends::{FUNDEE, FUNDER};
 use std::alloc::{AllocError, Global};
 
 /// The digest of 32 zero bytes.

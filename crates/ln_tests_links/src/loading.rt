@@ -1,13 +1,13 @@
 //! What a channel's record tells of its updates: whether a log can be made of it, and which numbers it can
 //! have.
 
-use crate::ends::htlc;
 use crate::log::What::{Add, Fulfil};
 use crate::log::{What, updates};
 use crate::testing::OPENING;
 use ln_dance::{Dance, Numbers};
 use ln_log::{Balances, BaseState, Counts, Coverage, Role, Side, UpdateLog};
 use ln_msgs::Refusal;
+use ln_tests_ends::htlc;
 use std::alloc::Global;
 
 /// How many own and peer's updates the last signature covers, how many are acknowledged, and how many of them the own

@@ -1,6 +1,5 @@
 //! A log of updates: what the commitments are worth at each step of a payment, and the plain programs.
 
-use crate::ends::htlc;
 use crate::testing::OPENING;
 use ln_bytes::Bytes;
 use ln_log::{
@@ -9,6 +8,7 @@ use ln_log::{
     update_refusal,
 };
 use ln_msgs::Refusal;
+use ln_tests_ends::htlc;
 use std::alloc::Global;
 
 /// An update in few words.

@@ -1,9 +1,9 @@
 //! Records of channel ends, against bytes that a separate program wrote.
 
-use crate::code_of;
 use ln_keys::sha256_32;
 use ln_msgs::Refusal;
 use ln_store::{LinkRecord, decode_record, encode_record, one_record};
+use ln_tests_ends::code_of;
 use std::alloc::Global;
 
 /// The body of a record with each kind of item, as pieces that are written so many times.

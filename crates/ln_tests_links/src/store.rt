@@ -1,8 +1,8 @@
 //! Stores of records.
 
-use crate::{FailingStore, code_of};
 use ln_msgs::Refusal;
 use ln_store::{MemoryStore, RecordStore};
+use ln_tests_ends::{FailingStore, code_of};
 use std::alloc::Global;
 
 /// What a save of this text under 32 bytes of this value is refused by; 0 where it isn't.

@@ -1,20 +1,11 @@
 //! What the tests of several crates share.
 
-ghost use Rattle.std.specs.Prelude.{◌≡◌};
-
 use hex::FromHex;
 use ln_dance::{Dance, Later, Numbers, Peer};
 use ln_keys::{ChannelKeys, Role, ToyKeys};
 use ln_log::{Limits, Opening, UpdateLog};
 use ln_msgs::{Incoming, Message, Refusal, decode};
 use std::alloc::Global;
-
-/// A value takes another's place. What is dropped has a depth that nobody knows here.
-pub fn put<T: Drop>(place: &mut T, value: T)
-    ensures { place.new ≡ value }
-{
-    *place = value;
-}
 
 /// The bytes of 64 hex digits; zeros for any other text.
 pub fn bytes_of(digits: &str) -> [u8; 32] {

@@ -1,5 +1,5 @@
 //! Tests of running nodes over loopback, by their public calls alone: hooks and workers beside each other, strangers,
-//! payments that wait, the demo. What lines can say stands in ln_node_calls.
+//! payments that wait, the demo, what is logged. What lines can say stands in ln_node_calls.
 #![tactic(auto)]
 
 mod frames;
@@ -18,5 +18,7 @@ mod openings;
 mod pair;
 #[cfg(test)]
 mod tests;
+#[cfg(test)]
+mod trace;
 #[cfg(test)]
 mod veil;

@@ -8,7 +8,7 @@ use ln_keys::Role;
 use ln_msgs::Refusal;
 use ln_sqlite::SqliteStore;
 use ln_store::{MemoryStore, RecordStore};
-use ln_tests_links::{
+use ln_tests_ends::{
     FUNDEE, FUNDER, FailingStore, boxed, code_of, fundee_side, funder_side, played,
 };
 use sqlite::{Alter, Connection};

@@ -7,7 +7,7 @@ use ln_keys::ToyKeys;
 use ln_link::Link;
 use ln_msgs::{Message, Refusal};
 use ln_store::RecordStore;
-use ln_tests_links::{Side, boxed, code_of, messages_of, offer, stored};
+use ln_tests_ends::{Side, boxed, code_of, messages_of, offer, stored};
 use std::alloc::Global;
 use std::collections::VecDeque;
 

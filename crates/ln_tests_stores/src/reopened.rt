@@ -7,7 +7,7 @@ use ln_keys::ToyKeys;
 use ln_link::Link;
 use ln_msgs::Refusal;
 use ln_store::RecordStore;
-use ln_tests_links::{FUNDEE, FUNDER, Side, boxed, fundee_side, funder_side, played};
+use ln_tests_ends::{FUNDEE, FUNDER, Side, boxed, fundee_side, funder_side, played};
 use std::alloc::Global;
 use std::fs;
 use std::test::Fail;

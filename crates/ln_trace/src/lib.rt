@@ -29,8 +29,6 @@ mod one_line;
 mod saves;
 mod step_pairs;
 mod steps;
-#[cfg(test)]
-mod tests;
 
 pub use logged_store::{LoggedStore, STORE};
 pub use step_pairs::StepPairs;

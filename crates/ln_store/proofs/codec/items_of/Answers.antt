@@ -9,7 +9,7 @@ returns-then-whole-clause-reads_as_defined c =
     let i = c.in_ok-items.items in
     told c.args.version c.args.body.now i c.in_ok-items.rest.now (λ n. omega (arith, c.type_inv.body n))
     c.in_ok-items.ensures
-    ∙ ap (λ (b : Bool). cond b (Ok i) (Err refusal.Damaged)) (sym c.in_ok-whole.ensures.tells_it ∙ c.if-whole.true)
+    ∙ ap (λ (b : Bool). cond b (Ok i) (Err refusal.Damaged)) (sym c.in-Ok.ensures.tells_it ∙ c.if-whole.true)
 
 pub returns-then-whole-clause-is_readable : goal.returns-then-whole-clause-is_readable
 returns-then-whole-clause-is_readable c =
@@ -21,4 +21,4 @@ returns-else-whole-clause-reads_as_defined c =
     let i = c.in_ok-items.items in
     inr (told c.args.version c.args.body.now i c.in_ok-items.rest.now (λ n. omega (arith, c.type_inv.body n))
     c.in_ok-items.ensures
-    ∙ ap (λ (b : Bool). cond b (Ok i) (Err refusal.Damaged)) (sym c.in_ok-whole.ensures.tells_it ∙ c.if-whole.false))
+    ∙ ap (λ (b : Bool). cond b (Ok i) (Err refusal.Damaged)) (sym c.in-Ok.ensures.tells_it ∙ c.if-whole.false))

@@ -1,10 +1,10 @@
-//! What is logged, line by line.
+//! What a node's traces and saves are logged as, line by line.
 
-use crate::{LoggedStore, log_trace};
 use ln_bytes::{Bytes, Fault};
 use ln_msgs::Refusal;
 use ln_node::{Notice, Step, Trace};
 use ln_store::{MemoryStore, RecordStore};
+use ln_trace::{LoggedStore, log_trace};
 use log::filter::{Builder, FilteredLog};
 use log::sink::{Lines, Memory};
 use log::{Level, Logged};

@@ -1,7 +1,7 @@
 //! What is told of channels and nodes, by words.
 
 use ln_msgs::Refusal;
-use ln_node::{ChannelState, ChannelSummary, Counters, Decided, HtlcStage};
+use ln_watch::{ChannelState, ChannelSummary, Counters, Decided, HtlcStage};
 
 /// The word for how far a channel is.
 pub fn state_word(state: ChannelState) -> &'static str {

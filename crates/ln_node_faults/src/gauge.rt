@@ -1,7 +1,6 @@
 //! What is counted of an end of a channel, what its hooks say, and what its store is to fail.
 
-use ln_hooks::{ChannelEvent, FailureCode, How, Verdict};
-use ln_node::{Notice, Step, Table};
+use ln_hooks::{ChannelEvent, FailureCode, How, Table, Verdict};
 use std::alloc::{AllocError, Global};
 use std::sync::Arc;
 use std::sync::atomic::{AtomicU64, Ordering};
@@ -78,11 +77,6 @@ fn code_of(how: &How) -> u64 {
         },
         _ => 0,
     }
-}
-
-// Whether a message's text is that of `update_add_htlc`.
-fn is_add(text: &str) -> bool {
-    text.starts_with("type 128 ")
 }
 
 impl Gauge {
@@ -184,24 +178,34 @@ impl Gauge {
         false
     }
 
-    /// What has become of it.
-    pub fn at_notice(&self, notice: Notice) {
-        match notice {
-            Notice::Loaded => rises(&self.loaded),
-            Notice::Refused(refusal) if refusal.number() == 44 => rises(&self.limited),
-            _ => {}
-        }
+    /// It was loaded after it had halted.
+    pub fn at_load(&self) {
+        rises(&self.loaded);
     }
 
-    /// A step of it was traced.
-    pub fn at_step(&self, step: &Step) {
-        match step {
-            Step::Took(text) if is_add(text) => rises(&self.took),
-            Step::Sent(text) if is_add(text) => rises(&self.sent),
-            Step::Saved(bytes, Ok(())) if *bytes > 0 => self.saved.store(1, Ordering::SeqCst),
-            Step::Noticed(_) => self.noticed.store(1, Ordering::SeqCst),
-            _ => {}
-        }
+    /// It has refused a command by its peer's limits.
+    pub fn at_limit(&self) {
+        rises(&self.limited);
+    }
+
+    /// A traced step: it was handed an add.
+    pub fn at_add_taken(&self) {
+        rises(&self.took);
+    }
+
+    /// It has handed one out.
+    pub fn at_add_sent(&self) {
+        rises(&self.sent);
+    }
+
+    /// There was a save.
+    pub fn at_save(&self) {
+        self.saved.store(1, Ordering::SeqCst);
+    }
+
+    /// There was a notice.
+    pub fn at_notice(&self) {
+        self.noticed.store(1, Ordering::SeqCst);
     }
 
     /// Steps of its node were lost.

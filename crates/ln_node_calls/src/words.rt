@@ -1,0 +1,102 @@
+//! What the words of a line say.
+
+use ln_bytes::Bytes;
+use ln_channel::Command;
+use ln_hooks::FailureCode;
+use ln_msgs::Refusal;
+use ln_node::Signing;
+use ln_node_faults::{A0, B0, B1, C0, CONTINUE, End, HOLD};
+use std::alloc::Global;
+
+/// A word that is none.
+pub const BAD: Refusal = Refusal::BadScript { line: 0 };
+
+/// The word at a place; the empty one after the last.
+pub fn at<'a>(words: &[&'a str], place: usize) -> &'a str {
+    match words.get(place) {
+        Some(word) => word,
+        None => "",
+    }
+}
+
+/// The number of a word.
+pub fn number(word: &str) -> Result<u64, Refusal> {
+    match word.parse::<u64>() {
+        Ok(number) => Ok(number),
+        Err(_) => Err(BAD),
+    }
+}
+
+/// The same of at most 65,535.
+pub fn small(word: &str) -> Result<u16, Refusal> {
+    match word.parse::<u16>() {
+        Ok(number) => Ok(number),
+        Err(_) => Err(BAD),
+    }
+}
+
+/// The end of a word.
+pub fn end(word: &str) -> Result<End, Refusal> {
+    match word {
+        "A0" => Ok(A0),
+        "B0" => Ok(B0),
+        "B1" => Ok(B1),
+        "C0" => Ok(C0),
+        _ => Err(BAD),
+    }
+}
+
+/// The end of a payer or a payee, and the block of the channel that leads to the other one.
+pub fn side(word: &str) -> Result<(End, u8), Refusal> {
+    match word {
+        "A" => Ok((A0, 2)),
+        "C" => Ok((C0, 1)),
+        _ => Err(BAD),
+    }
+}
+
+/// The number of a node.
+pub fn node(word: &str) -> Result<usize, Refusal> {
+    match word {
+        "A" => Ok(0),
+        "B" => Ok(1),
+        "C" => Ok(2),
+        _ => Err(BAD),
+    }
+}
+
+/// What a hook is to say.
+pub fn saying(word: &str) -> Result<u64, Refusal> {
+    match word {
+        "continue" => Ok(CONTINUE),
+        "hold" => Ok(HOLD),
+        code => {
+            let number = small(code)?;
+            if FailureCode::new(number).is_some() {
+                Ok(u64::from(number))
+            } else {
+                Err(BAD)
+            }
+        }
+    }
+}
+
+/// A command by its word.
+pub fn command(alloc: Global, word: &str) -> Result<Command, Refusal> {
+    match word {
+        "sign" => Ok(Command::Sign),
+        "fee" => Ok(Command::Fee(300)),
+        "shut" => Ok(Command::Shutdown(Bytes::empty(alloc))),
+        "forget" => Ok(Command::Forget(0)),
+        _ => Err(BAD),
+    }
+}
+
+/// When nodes sign.
+pub fn signing(word: &str) -> Result<Signing, Refusal> {
+    match word {
+        "ordered" => Ok(Signing::WhenOrdered),
+        "idle" => Ok(Signing::WhenIdle),
+        _ => Err(BAD),
+    }
+}
