@@ -62,6 +62,8 @@ impl IndexedHtlcs {
         let slots = slots_of(alloc, htlcs)?;
         let mut indices = Indices::new(alloc);
         if !indices.reserve(slots.len()) {
+            drop(indices);
+            drop(slots);
             return Err(Refusal::Memory);
         }
         index_all(slots.as_slice(), &mut indices);

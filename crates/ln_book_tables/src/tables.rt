@@ -14,6 +14,7 @@ use ln_log::{ChannelId, Mark};
 use ln_msgs::Refusal;
 use std::alloc::Global;
 use std::marker::Model;
+use std::mem;
 
 /// What a book says. Contracts see it as a `Table` of specs/Replay.antt.
 #[derive(Drop)]
@@ -446,9 +447,10 @@ impl Tables {
         ensures changes_nothing_if_refused { OnErr result (self.new ≡ self.old) }
         ensures fails_for_memory_alone { IfErr result (λ r. r ≡ Refusal.Memory) }
     {
-        self.htlcs = IndexedHtlcs::of(alloc, htlcs)?;
-        self.queue = Vec::new(alloc);
-        self.pending_commands = IndexMap::new(alloc);
+        let htlcs = IndexedHtlcs::of(alloc, htlcs)?;
+        drop(mem::replace(&mut self.htlcs, htlcs));
+        drop(mem::replace(&mut self.queue, Vec::new(alloc)));
+        drop(mem::replace(&mut self.pending_commands, IndexMap::new(alloc)));
         Ok(())
     }
 }
