@@ -202,9 +202,9 @@ impl<K: ChannelKeys + Copy, S: Drop> NodeLink<K, S> {
 impl<K: ChannelKeys + Copy, S: RecordStore + Drop> Stores for NodeLink<K, S> {
     type Store = S;
 
-    fn into_store(self) -> S
-        ensures { result ≡ self.saved.value.store.inner }
-    {
+    ghost store = { λ e. e.saved.value.store.inner };
+
+    fn into_store(self) -> S {
         let SavedLink {
             keys: _,
             link,

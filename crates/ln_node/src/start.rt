@@ -1,6 +1,8 @@
 //! The threads of a channel, each started by a function of its own that is generic over what it carries. What a thread
 //! has is let go as it ends: who joins it knows nothing of its parts.
 
+ghost use Rattle.std.specs.Prelude.{◌≡◌};
+
 use crate::reader::Connections;
 use crate::socket::Socket;
 use ln_msgs::Message;
@@ -22,10 +24,14 @@ pub(crate) trait Stores: End {
     type Store;
 
     /// Its store.
-    fn into_store(self) -> Self::Store;
+    ghost store: { Self → Self.Store };
+
+    /// Gives its store back.
+    fn into_store(self) -> Self::Store
+        ensures { result ≡ store self };
 }
 
-// The store of a worker that has ended.
+// The store of a worker that has ended: its end's.
 fn store_of<E, W, I, T, B, A>(work: WorkerLoop<E, W, I, T, B, A>) -> E::Store
 where
     E: Stores + Drop,
@@ -34,6 +40,7 @@ where
     T: Drop,
     B: Drop,
     A: Drop,
+    ensures { result ≡ E.store work.worker.end }
 {
     let WorkerLoop {
         worker,
