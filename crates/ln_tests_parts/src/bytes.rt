@@ -259,7 +259,7 @@ fn shown(alloc: Global, bytes: &[u8], known_even: &[u64]) -> Result<String, Allo
 fn record_texts(alloc: Global, records: &[Record]) -> Result<String, AllocError> {
     let mut text = String::new(alloc);
     for record in records {
-        text.push_str(format!(in alloc; "{}:{} ", record.typ, record.value.len())?.as_str())?;
+        write!(text, "{}:{} ", record.typ, record.value.len())?;
     }
     Ok(text)
 }
@@ -281,10 +281,19 @@ fn is_short_shown(alloc: Global) -> Result<bool, AllocError> {
     Ok(shown(alloc, &short, &FIRST)?.as_str() == "refused 5")
 }
 
+/// Whether both namespaces refuse what fails in any.
+fn both_refuse(alloc: Global) -> Result<bool, AllocError> {
+    for known_even in [FIRST.as_slice(), SECOND.as_slice()] {
+        if !are_shown(alloc, known_even, &BAD_STREAMS)? {
+            return Ok(false);
+        }
+    }
+    Ok(true)
+}
+
 fn all_are_shown(alloc: Global) -> Result<bool, AllocError> {
     Ok(
-        are_shown(alloc, &FIRST, &BAD_STREAMS)?
-            && are_shown(alloc, &SECOND, &BAD_STREAMS)?
+        both_refuse(alloc)?
             && are_shown(alloc, &FIRST, &IN_FIRST)?
             && are_shown(alloc, &SECOND, &IN_SECOND)?
             && is_short_shown(alloc)?,

@@ -3,8 +3,8 @@
 ghost use Rattle.std.specs.Prelude.{◌≡◌, ◌≤◌};
 
 use ln_relay::{
-    Finished, MemoryRecv, MemorySend, Receives, Sends, WaitRecv, WaitSend, Waits, finish,
-    finish_waiting, relay, waiting_relay,
+    Finished, MemoryRecv, MemorySend, Receives, Sends, Waits, finish, finish_waiting, relay,
+    waiting_relay,
 };
 use std::alloc::AllocError;
 use std::sync::Wait;
@@ -27,6 +27,26 @@ fn take_three<S: Receives<u32>, R: Wait>(rt: &R, seat: &mut S) -> [Option<u32>; 
     ensures position_stays { S.position seat.new ≡ S.position seat.old }
 {
     [seat.recv(rt), seat.recv(rt), seat.recv(rt)]
+}
+
+/// Whether a relay of two items takes the first two of three. The checks are generic in seats: what names a seat of a
+/// relay pays for its whole depth.
+fn puts_two<S: Sends<u32>, R: Wait>(rt: &R, seat: &mut S) -> bool
+    ensures position_stays { S.position seat.new ≡ S.position seat.old }
+{
+    put_three(rt, seat) == [Ok(()), Ok(()), Err(3)]
+}
+
+/// Whether these are received.
+fn takes<S: Receives<u32>, R: Wait>(rt: &R, seat: &mut S, wanted: [Option<u32>; 3]) -> bool
+    ensures position_stays { S.position seat.new ≡ S.position seat.old }
+{
+    take_three(rt, seat) == wanted
+}
+
+/// Whether 1 comes to a seat that may wait, then 2, and no more.
+fn takes_two<D: Waits<u32>, R: Wait>(rt: &R, seat: &mut D) -> bool {
+    seat.recv_wait(rt) == Some(1) && takes(rt, seat, [Some(2), None, None])
 }
 
 /// Sends an item, and tries again where the relay is full.
@@ -125,8 +145,8 @@ const TWO: Finished = Finished {
 #[test]
 fn small_relay_hands_over(rt: HostRuntime) -> Result<(), AllocError> {
     let (mut first, second, mut receiver) = relay(rt.alloc(), 2)?;
-    assert!(rt; put_three(&rt, &mut first) == [Ok(()), Ok(()), Err(3)]);
-    assert!(rt; take_three(&rt, &mut receiver) == [Some(1), Some(2), None]);
+    assert!(rt; puts_two(&rt, &mut first));
+    assert!(rt; takes(&rt, &mut receiver, [Some(1), Some(2), None]));
     assert!(rt; finish(first, second, receiver) == TWO);
     Ok(())
 }
@@ -134,8 +154,8 @@ fn small_relay_hands_over(rt: HostRuntime) -> Result<(), AllocError> {
 #[test]
 fn small_waiting_relay_hands_over(rt: HostRuntime) -> Result<(), AllocError> {
     let (mut first, second, mut receiver) = waiting_relay(rt.alloc(), 2)?;
-    assert!(rt; put_three(&rt, &mut first) == [Ok(()), Ok(()), Err(3)]);
-    assert!(rt; take_three(&rt, &mut receiver) == [Some(1), Some(2), None]);
+    assert!(rt; puts_two(&rt, &mut first));
+    assert!(rt; takes(&rt, &mut receiver, [Some(1), Some(2), None]));
     assert!(rt; finish_waiting(first, second, receiver) == TWO);
     Ok(())
 }
@@ -143,20 +163,19 @@ fn small_waiting_relay_hands_over(rt: HostRuntime) -> Result<(), AllocError> {
 #[test]
 fn small_seats_of_no_relay(rt: HostRuntime) -> Result<(), AllocError> {
     let mut sender = MemorySend::new(rt.alloc(), 2)?;
-    assert!(rt; put_three(&rt, &mut sender) == [Ok(()), Ok(()), Err(3)]);
+    assert!(rt; puts_two(&rt, &mut sender));
     let mut receiver = MemoryRecv::new(sender.into_items());
-    assert!(rt; receiver.recv_wait(&rt) == Some(1));
-    assert!(rt; take_three(&rt, &mut receiver) == [Some(2), None, None]);
+    assert!(rt; takes_two(&rt, &mut receiver));
     Ok(())
 }
 
-/// Two threads send and one receives, until all have ended: the seats, and what the receiver saw.
+/// Two threads send and one receives, until all have ended: the seats, and whether the receiver saw a merge.
 fn hand_over<S: Sends<u32> + Send + Drop, D: Receives<u32> + Send + Drop, R: Threads + Wait + Sync>(
     rt: &R,
     first: S,
     second: S,
     receiver: D,
-) -> ((S, S, D), Order)
+) -> ((S, S, D), bool)
     ensures first_stays { S.position result.0.0 ≡ S.position first }
     ensures second_stays { S.position result.0.1 ≡ S.position second }
     ensures receiver_stays { D.position result.0.2 ≡ D.position receiver }
@@ -181,14 +200,14 @@ fn hand_over<S: Sends<u32> + Send + Drop, D: Receives<u32> + Send + Drop, R: Thr
             )
         },
     );
-    ((first, second, receiver), order)
+    ((first, second, receiver), order == MERGED)
 }
 
 #[test]
 fn threads_hand_over_in_order(rt: HostRuntime) -> Result<(), AllocError> {
     let (first, second, receiver) = relay(rt.alloc(), 8)?;
-    let ((first, second, receiver), order) = hand_over(&rt, first, second, receiver);
-    assert!(rt; order == MERGED);
+    let ((first, second, receiver), is_merge) = hand_over(&rt, first, second, receiver);
+    assert!(rt; is_merge);
     assert!(rt; finish(first, second, receiver) == ALL);
     Ok(())
 }
@@ -196,20 +215,24 @@ fn threads_hand_over_in_order(rt: HostRuntime) -> Result<(), AllocError> {
 #[test]
 fn threads_hand_over_in_order_where_one_may_wait(rt: HostRuntime) -> Result<(), AllocError> {
     let (first, second, receiver) = waiting_relay(rt.alloc(), 8)?;
-    let ((first, second, receiver), order) = hand_over(&rt, first, second, receiver);
-    assert!(rt; order == MERGED);
+    let ((first, second, receiver), is_merge) = hand_over(&rt, first, second, receiver);
+    assert!(rt; is_merge);
     assert!(rt; finish_waiting(first, second, receiver) == ALL);
     Ok(())
 }
 
 /// Sets the flag, and takes one item.
-fn wait_for_one<R: Wait>(rt: &R, flag: &AtomicU64, mut seat: WaitRecv<u32>) -> Option<u32> {
+fn wait_for_one<D: Waits<u32> + Drop, R: Wait>(
+    rt: &R,
+    flag: &AtomicU64,
+    mut seat: D,
+) -> Option<u32> {
     flag.store(1, Ordering::SeqCst);
     seat.recv_wait(rt)
 }
 
 /// Sends 1, a thousand turns after it saw the flag.
-fn send_late<R: Wait>(rt: &R, flag: &AtomicU64, mut seat: WaitSend<u32>) -> bool {
+fn send_late<S: Sends<u32> + Drop, R: Wait>(rt: &R, flag: &AtomicU64, mut seat: S) -> bool {
     for _ in 0..TURNS {
         if flag.load(Ordering::SeqCst) == 1 {
             break;
@@ -222,17 +245,26 @@ fn send_late<R: Wait>(rt: &R, flag: &AtomicU64, mut seat: WaitSend<u32>) -> bool
     seat.send(rt, 1).is_ok()
 }
 
-#[test]
-fn recv_wait_waits(rt: HostRuntime) -> Result<(), AllocError> {
-    let (first, second, receiver) = waiting_relay(rt.alloc(), 1)?;
+/// One thread waits for an item while the other sends late: what came, and whether it was sent.
+fn wait_and_send<
+    S: Sends<u32> + Send + Drop,
+    D: Waits<u32> + Send + Drop,
+    R: Threads + Wait + Sync,
+>(rt: &R, made: Result<(S, S, D), AllocError>) -> Result<(Option<u32>, bool), AllocError> {
+    let (first, second, receiver) = made?;
     let flag = AtomicU64::new(0);
-    let (got, sent) = thread::join(
-        &rt,
-        || wait_for_one(&rt, &flag, receiver),
-        || send_late(&rt, &flag, first),
+    let told = thread::join(
+        rt,
+        || wait_for_one(rt, &flag, receiver),
+        || send_late(rt, &flag, first),
     );
     drop(second);
-    assert!(rt; sent);
-    assert!(rt; got == Some(1));
+    Ok(told)
+}
+
+#[test]
+fn recv_wait_waits(rt: HostRuntime) -> Result<(), AllocError> {
+    let told = wait_and_send(&rt, waiting_relay(rt.alloc(), 1))?;
+    assert!(rt; told == (Some(1), true));
     Ok(())
 }
