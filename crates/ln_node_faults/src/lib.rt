@@ -1,6 +1,6 @@
-//! What the nodes of tests are disturbed by and watched with: proxies that lose messages, stores whose saves fail, hooks
-//! that hold and fail payments, all told by gauges, which count what comes about. Nothing here is a node: so it is
-//! proved beside ln_node.
+//! What the nodes of tests are disturbed by and watched with: proxies that lose messages, stores whose saves fail,
+//! hooks that hold and fail payments, all told by gauges, which count what comes about. Nothing here is a node, so it
+//! is proved beside ln_node.
 #![tactic(auto)]
 
 mod end;
