@@ -17,7 +17,7 @@ use ln_history::Past;
 use ln_hooks::{ChannelEvent, How, Verdict};
 use ln_keys::Onion;
 use ln_log::{ChannelId, Mark};
-use ln_msgs::Refusal;
+use ln_refusals::Refusal;
 use std::alloc::Global;
 use std::marker::Model;
 

@@ -18,7 +18,7 @@ use ln_forward::Failure;
 use ln_hooks::How;
 use ln_keys::{Onion, OpenFault, Opened, sha256_32};
 use ln_log::{ChannelId, Mark};
-use ln_msgs::Refusal;
+use ln_refusals::Refusal;
 use std::alloc::Global;
 
 /// A failure as it goes back (BOLT 4, "Returning Errors"). Error: 60 alone.

@@ -18,7 +18,7 @@ use ln_forward::{
 use ln_hooks::{ChannelEvent, FailureCode, Verdict};
 use ln_keys::{Onion, OpenFault, Opened};
 use ln_log::Mark;
-use ln_msgs::Refusal;
+use ln_refusals::Refusal;
 use std::alloc::Global;
 
 /// What a peer offers, where an event tells of that.

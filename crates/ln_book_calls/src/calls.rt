@@ -10,7 +10,7 @@ use ln_bytes::{Bytes, ShortId};
 use ln_forward::Policy;
 use ln_hooks::{ChannelEvent, FailureCode, How, Msat, Verdict};
 use ln_keys::{ToyOnion, sha256_32};
-use ln_msgs::Refusal;
+use ln_refusals::Refusal;
 use ln_tests_ends::{at, bytes_of, code, numbers, wide};
 use std::alloc::{AllocError, Global};
 

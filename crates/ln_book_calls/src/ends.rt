@@ -4,7 +4,8 @@ use ln_bytes::ShortId;
 use ln_channel::{Channel, ChannelMachine, Command, FitConfig, FitSpec, OpenSpec, Output};
 use ln_hooks::ChannelEvent;
 use ln_keys::ToyKeys;
-use ln_msgs::{Message, Records, Refusal};
+use ln_msgs::{Message, Records};
+use ln_refusals::Refusal;
 use ln_tests_ends::{CHEAP, boxed, config, push};
 use std::alloc::Global;
 

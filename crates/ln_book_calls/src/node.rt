@@ -9,7 +9,7 @@ use ln_channel::Command;
 use ln_hooks::Verdict;
 use ln_keys::{ToyOnion, sha256_32};
 use ln_log::ChannelId;
-use ln_msgs::Refusal;
+use ln_refusals::Refusal;
 use ln_tests_ends::{at, bytes_of, wide};
 use std::alloc::{AllocError, Global};
 

@@ -4,7 +4,7 @@ use ln_book::Book;
 use ln_bytes::Bytes;
 use ln_hooks::{ChannelEvent, How, Msat, Verdict};
 use ln_keys::{Onion, OpenFault, Opened};
-use ln_msgs::Refusal;
+use ln_refusals::Refusal;
 use ln_tests_ends::{at, bytes_of};
 use std::alloc::Global;
 

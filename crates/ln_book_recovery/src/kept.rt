@@ -7,7 +7,7 @@ ghost use Rattle.ln_book_recovery.specs.Kept.{is_decision_kept, is_pending_comma
 
 use ln_book_tables::{Ids, KeptState, Out, PendingCommand, Queued, Tables};
 use ln_log::{ChannelId, Mark};
-use ln_msgs::Refusal;
+use ln_refusals::Refusal;
 use std::alloc::Global;
 
 /// What is asked of a channel end, once its connection was lost or it was loaded.

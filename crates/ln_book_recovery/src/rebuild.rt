@@ -11,7 +11,7 @@ ghost use Rattle.ln_book_recovery.specs.Rebuild.{rebuilt_htlcs};
 use crate::leg::{ChannelSnapshot, Leg, NO_EVENT};
 use ln_book_tables::{Htlc, IncomingLeg, Key, Offer, OutgoingLeg};
 use ln_log::Mark;
-use ln_msgs::Refusal;
+use ln_refusals::Refusal;
 use std::alloc::Global;
 
 // The first that forwards this HTLC.

@@ -16,7 +16,7 @@ use ln_log::{
     Add, ChannelId, Decision, Mark, Outcome, Pair, Settlement, Side, Update, UpdateLog, add_of,
     find_add, outcome_of,
 };
-use ln_msgs::Refusal;
+use ln_refusals::Refusal;
 use std::alloc::Global;
 
 // The peer's updates behind the base.

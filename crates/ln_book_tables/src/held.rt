@@ -8,7 +8,7 @@ use crate::entry::Queued;
 use crate::htlc::Htlc;
 use crate::lists::is_any_resumed;
 use ln_log::{ChannelId, Mark};
-use ln_msgs::Refusal;
+use ln_refusals::Refusal;
 use std::alloc::Global;
 
 /// An HTLC that a channel holds until it is resumed.

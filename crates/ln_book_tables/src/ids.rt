@@ -6,7 +6,7 @@ ghost use Rattle.ln_book_tables.specs.Slots.{in_slots};
 
 use crate::htlc::Htlc;
 use ln_log::ChannelId;
-use ln_msgs::Refusal;
+use ln_refusals::Refusal;
 use std::alloc::Global;
 
 // That of the HTLC of a slot, where it is the channel's.

@@ -9,7 +9,7 @@ use crate::lists::{Change, Which};
 use crate::lost::put_back_all;
 use crate::slots::{change_first, index_all, leave_out, leave_out_over, place_of, squeeze};
 use ln_log::{ChannelId, Mark};
-use ln_msgs::Refusal;
+use ln_refusals::Refusal;
 use std::alloc::Global;
 use std::marker::Model;
 

@@ -11,7 +11,7 @@ use indexmap::IndexMap;
 use ln_hooks::How;
 use ln_keys::sha256_32;
 use ln_log::{ChannelId, Mark};
-use ln_msgs::Refusal;
+use ln_refusals::Refusal;
 use std::alloc::Global;
 use std::marker::Model;
 use std::mem;

@@ -1,12 +1,12 @@
 -- What an end keeps as its dance moves on.
 use Rattle.std.proofs.Common.{refl, ap, sym, ◌∙◌, inl, inr, Option, Some, None, ◌≡◌, Result, Ok, Err, OnOk}
 use Rattle.std.proofs.Common.{Bool, true, false, IsTrue, IsErrOf, ◌↔◌, if◌then◌else◌}
-use Rattle.ln_msgs.specs.declared.refusals.refusal.Refusal.{Refusal}
+use Rattle.ln_refusals.specs.declared.refusal.Refusal.{Refusal}
 use Rattle.ln_log.specs.Limits.{Answers}
 use Rattle.ln_log.specs.Log.{Log, at_opening}
 use Rattle.ln_dance.specs.Dance as dance
 use Rattle.ln_dance.specs.Dance.{Dancer, AnswersWithin}
-use Rattle.ln_msgs.specs.declared.refusals.refusal.Refusal.TheVariants as refusal
+use Rattle.ln_refusals.specs.declared.refusal.Refusal.TheVariants as refusal
 use Rattle.ln_channel.specs.Opening.{AnswersFault, AnswersSignature}
 use Rattle.ln_channel.specs.End.{End, StandsFor, IsSound, with_dance}
 

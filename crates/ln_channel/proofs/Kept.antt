@@ -1,6 +1,6 @@
 -- What is kept of a link, by its parts, and what it stands for.
 use Rattle.std.proofs.Common.{refl, sym, ap, subst, inl, inr, Bool, false, ◌≡◌, ◌∙◌, Result, Ok, Err}
-use Rattle.ln_msgs.specs.declared.refusals.refusal.Refusal.{Refusal}
+use Rattle.ln_refusals.specs.declared.refusal.Refusal.{Refusal}
 use Rattle.ln_channel.specs.declared.machine.ConnectionState.{ConnectionState}
 use Rattle.ln_channel.specs.declared.machine.Stage.{Stage}
 use Rattle.ln_channel.specs.declared.machine.Stage.TheVariants as stage

@@ -10,8 +10,8 @@ use Rattle.ln_bytes.specs.Tlv.{value_of}
 use Rattle.ln_msgs.specs.declared.messages.opening.AcceptChannel.{AcceptChannel}
 use Rattle.ln_msgs.specs.declared.messages.opening.FundingCreated.{FundingCreated}
 use Rattle.ln_msgs.specs.declared.messages.opening.FundingSigned.{FundingSigned}
-use Rattle.ln_msgs.specs.declared.refusals.refusal.Refusal.{Refusal}
-use Rattle.ln_msgs.specs.declared.refusals.refusal.Refusal.TheVariants as refusal
+use Rattle.ln_refusals.specs.declared.refusal.Refusal.{Refusal}
+use Rattle.ln_refusals.specs.declared.refusal.Refusal.TheVariants as refusal
 use Rattle.ln_keys.specs.declared.view.View.{View}
 use Rattle.ln_keys.specs.Signer.{Signer}
 use Rattle.ln_keys.specs.Partners.{IsVerifiedBy}

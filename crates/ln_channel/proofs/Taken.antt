@@ -1,8 +1,8 @@
 -- A message or a command, as what is said of it where it is known.
 use Rattle.std.proofs.Common.{sym, ap, subst, Bool, true, false, ◌≡◌, ◌∙◌, Result, Ok}
 use Rattle.std.proofs.Common.{if◌then◌else◌, Option, None, Some, []}
-use Rattle.ln_msgs.specs.declared.refusals.refusal.Refusal.{Refusal}
-use Rattle.ln_msgs.specs.declared.refusals.refusal.Refusal.TheVariants as refusal
+use Rattle.ln_refusals.specs.declared.refusal.Refusal.{Refusal}
+use Rattle.ln_refusals.specs.declared.refusal.Refusal.TheVariants as refusal
 use Rattle.ln_msgs.specs.declared.messages.message.Message.{Message}
 use Rattle.ln_keys.specs.Signer.{Signer}
 use Rattle.ln_log.specs.declared.update.Update.{Update}

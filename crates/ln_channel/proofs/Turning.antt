@@ -2,8 +2,8 @@
 use Rattle.std.proofs.Common.{refl, ap, sym, subst, inl, inr, Bool, true, false, not, ◌≡◌, ◌∙◌, Result, Ok, Err}
 use Rattle.std.proofs.Common.{OnOk, IfOk, IfErr, if◌then◌else◌, Option, None, []}
 use Rattle.ln_bytes.specs.Answers.{fault_of}
-use Rattle.ln_msgs.specs.declared.refusals.refusal.Refusal.{Refusal}
-use Rattle.ln_msgs.specs.declared.refusals.refusal.Refusal.TheVariants as refusal
+use Rattle.ln_refusals.specs.declared.refusal.Refusal.{Refusal}
+use Rattle.ln_refusals.specs.declared.refusal.Refusal.TheVariants as refusal
 use Rattle.ln_msgs.specs.declared.messages.closing.ClosingSigned.{ClosingSigned}
 use Rattle.ln_msgs.specs.declared.messages.opening.FundingSigned.{FundingSigned}
 use Rattle.ln_keys.specs.Signer.{Signer}

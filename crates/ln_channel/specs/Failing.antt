@@ -1,7 +1,7 @@
 -- By which refusals a channel fails (BOLT 1, "The error and warning Messages").
 use Rattle.std.specs.Prelude.{◌||◌, ◌&&◌, ◌==◌, ℕ, Bool, nat_le}
-use Rattle.ln_msgs.specs.declared.refusals.refusal.Refusal.{Refusal}
-use Rattle.ln_msgs.specs.Refusals.Refusal.{refusal_number}
+use Rattle.ln_refusals.specs.declared.refusal.Refusal.{Refusal}
+use Rattle.ln_refusals.specs.Refusal.{refusal_number}
 
 -- 21 to 35, by what the peer sent, and 37, where it sent an error
 abbrev pub is_failure : ℕ → Bool

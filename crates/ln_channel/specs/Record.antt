@@ -1,6 +1,6 @@
 -- What of a link outlives a restart.
 use Rattle.std.specs.Prelude.{Option, Some, None, false}
-use Rattle.ln_msgs.specs.declared.refusals.refusal.Refusal.{Refusal}
+use Rattle.ln_refusals.specs.declared.refusal.Refusal.{Refusal}
 use Rattle.ln_channel.specs.declared.machine.ConnectionState.TheVariants as connection
 use Rattle.ln_channel.specs.declared.machine.Stage.{Stage}
 use Rattle.ln_channel.specs.declared.machine.Stage.TheVariants as stage

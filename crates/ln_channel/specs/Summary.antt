@@ -1,6 +1,6 @@
 -- Where a link stands with its channel.
 use Rattle.std.specs.Prelude.{Option, Some, None, length, if◌then◌else◌, ℕ}
-use Rattle.ln_msgs.specs.declared.refusals.refusal.Refusal.{Refusal}
+use Rattle.ln_refusals.specs.declared.refusal.Refusal.{Refusal}
 use Rattle.ln_keys.specs.declared.role.Role.{Role}
 use Rattle.ln_keys.specs.declared.role.Role.TheVariants.{Funder, Fundee}
 use Rattle.ln_keys.specs.declared.view.View.{View}

@@ -9,7 +9,7 @@ use crate::channel::{Channel, own_held, peer_held};
 use crate::machine::{ChannelMachine, Stage};
 use ln_keys::ChannelKeys;
 use ln_log::{Counts, EventRef, Pair, Side, Update, UpdateLog, removed_ids};
-use ln_msgs::Refusal;
+use ln_refusals::Refusal;
 use std::alloc::Global;
 
 // The least of a count and of the own updates that these events tell of.

@@ -16,7 +16,8 @@ use ln_close::Closing;
 use ln_dance::Dance;
 use ln_keys::ChannelKeys;
 use ln_log::{Pair, Side, Update};
-use ln_msgs::{ClosingSigned, Message, Records, Refusal, Shutdown};
+use ln_msgs::{ClosingSigned, Message, Records, Shutdown};
+use ln_refusals::Refusal;
 use std::alloc::Global;
 use std::marker::Model;
 

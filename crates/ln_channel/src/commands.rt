@@ -8,7 +8,8 @@ use ln_bytes::{Bytes, ShortId};
 use ln_dance::{add_message, fail_message, fee_message, fulfil_message, malformed_message};
 use ln_keys::ChannelKeys;
 use ln_log::{Add, EventRef, Fail, Fee, Fulfil, Malformed, Side, Update, add_of};
-use ln_msgs::{ChannelReady, CommitmentSigned, Message, PeerRule, Records, Refusal};
+use ln_msgs::{ChannelReady, CommitmentSigned, Message, Records};
+use ln_refusals::{PeerRule, Refusal};
 use std::alloc::Global;
 
 impl Channel {

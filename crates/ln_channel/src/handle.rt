@@ -5,7 +5,8 @@ use crate::machine::{ChannelMachine, Stage};
 use crate::output::{Outbox, Output};
 use crate::stage::{fails, note_open, obey_open};
 use ln_keys::ChannelKeys;
-use ln_msgs::{Message, Refusal};
+use ln_msgs::Message;
+use ln_refusals::Refusal;
 use std::alloc::Global;
 
 impl<K: ChannelKeys + Drop> ChannelMachine<K> {

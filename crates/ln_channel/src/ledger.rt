@@ -3,7 +3,7 @@
 use crate::output::{Outbox, Output};
 use ln_hooks::{ChannelEvent, event_of};
 use ln_log::{ChannelId, Decision, EventRef, Mark, Settlement, Update, UpdateLog, removal_of};
-use ln_msgs::Refusal;
+use ln_refusals::Refusal;
 use std::alloc::Global;
 use std::collections::BTreeSet;
 use std::marker::Model;

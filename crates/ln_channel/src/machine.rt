@@ -6,7 +6,8 @@ use crate::opening::{Agreed, open_channel};
 use crate::output::{Outbox, Output, one};
 use ln_dance::Numbers;
 use ln_keys::ChannelKeys;
-use ln_msgs::{Message, Refusal};
+use ln_msgs::Message;
+use ln_refusals::Refusal;
 use std::alloc::Global;
 use std::marker::Model;
 

@@ -2,7 +2,7 @@
 
 ghost use Rattle.std.specs.Prelude.{◌≡◌, ◌⊎◌, true, false, Some, None, IfOk, IfErr, if◌then◌else◌};
 ghost use Rattle.ln_bytes.specs.Tlv.{value_of};
-ghost use Rattle.ln_msgs.specs.declared.refusals.refusal.Refusal.TheVariants as refusal;
+ghost use Rattle.ln_refusals.specs.declared.refusal.Refusal.TheVariants as refusal;
 ghost use Rattle.ln_keys.specs.Signer.{Signer};
 ghost use Rattle.ln_log.specs.Opening.{IsFit};
 ghost use Rattle.ln_channel.specs.declared.config.Config.{Config};
@@ -22,9 +22,8 @@ use ln_close::{Closing, Fees};
 use ln_dance::{Dance, Later, Numbers, Peer};
 use ln_keys::{ChannelKeys, Role};
 use ln_log::{Limits, Opening, Pair, Side, UpdateLog};
-use ln_msgs::{
-    AcceptChannel, FundingCreated, FundingSigned, OpenChannel, Records, Refusal, channel_id,
-};
+use ln_msgs::{AcceptChannel, FundingCreated, FundingSigned, OpenChannel, Records, channel_id};
+use ln_refusals::Refusal;
 use std::alloc::Global;
 use std::marker::Model;
 use std::mem;

@@ -10,7 +10,7 @@ use crate::machine::{ChannelMachine, Stage};
 use ln_hooks::{ChannelEvent, event_of};
 use ln_keys::ChannelKeys;
 use ln_log::{EventRef, Side, UpdateLog};
-use ln_msgs::Refusal;
+use ln_refusals::Refusal;
 use std::alloc::Global;
 
 // The event of the update of this number of a side, where there is one.

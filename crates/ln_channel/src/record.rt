@@ -7,7 +7,7 @@ use crate::opening::Terms;
 use ln_close::Closing;
 use ln_dance::Dance;
 use ln_keys::ChannelKeys;
-use ln_msgs::Refusal;
+use ln_refusals::Refusal;
 
 impl<K: ChannelKeys + Drop> ChannelMachine<K> {
     ghost use Rattle.std.specs.Prelude.{◌≡◌, option_copied};

@@ -5,7 +5,8 @@ use crate::opening::check_first;
 use crate::output::Outbox;
 use ln_dance::{Messages, Resend};
 use ln_keys::ChannelKeys;
-use ln_msgs::{ChannelReestablish, FundingSigned, Message, Refusal};
+use ln_msgs::{ChannelReestablish, FundingSigned, Message};
+use ln_refusals::Refusal;
 use std::alloc::Global;
 
 impl Channel {

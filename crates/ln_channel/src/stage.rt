@@ -24,8 +24,9 @@ use ln_dance::Numbers;
 use ln_keys::ChannelKeys;
 use ln_msgs::{
     AcceptChannel, ChannelReestablish, FundingCreated, FundingSigned, Message, OpenChannel,
-    Refusal, channel_id,
+    channel_id,
 };
+use ln_refusals::Refusal;
 use std::alloc::Global;
 use std::mem;
 

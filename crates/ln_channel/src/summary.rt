@@ -4,7 +4,7 @@ use crate::channel::Channel;
 use crate::machine::{ChannelMachine, Stage};
 use ln_keys::{ChannelKeys, Role};
 use ln_log::{Pair, Side};
-use ln_msgs::Refusal;
+use ln_refusals::Refusal;
 use std::alloc::Global;
 
 /// How far a channel is, for one of its ends.

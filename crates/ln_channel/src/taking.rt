@@ -11,9 +11,8 @@ use ln_close::FeeAnswer;
 use ln_dance::{add_of, fail_of, fee_of, fulfil_of, malformed_of};
 use ln_keys::ChannelKeys;
 use ln_log::{Side, Update};
-use ln_msgs::{
-    ChannelReady, ClosingSigned, CommitmentSigned, Message, Refusal, RevokeAndAck, Shutdown,
-};
+use ln_msgs::{ChannelReady, ClosingSigned, CommitmentSigned, Message, RevokeAndAck, Shutdown};
+use ln_refusals::Refusal;
 use std::alloc::Global;
 
 impl Channel {

@@ -1,7 +1,7 @@
 -- What tests that pass, or don't, say of what they test.
 use Rattle.std.proofs.Common.{◌≡◌, ◌∙◌, refl, ap, Bool, true, false, cond, not, ◌&&◌, ◌||◌, Option, Some, None}
 use Rattle.std.proofs.Common.{Result, Ok, Err}
-use Rattle.ln_msgs.specs.declared.refusals.refusal.Refusal.{Refusal}
+use Rattle.ln_refusals.specs.declared.refusal.Refusal.{Refusal}
 use Rattle.ln_log.specs.Limits.{first_fault}
 use Rattle.ln_channel.specs.Opening.{unless}
 

@@ -3,8 +3,8 @@ use Rattle.std.specs.Prelude.{◌≡◌, ◌⊎◌, ℕ, ◌<◌, ◌≤◌, ◌
 use Rattle.std.specs.Prelude.{None, Result, Ok, Err, min, max}
 use Rattle.ln_msgs.specs.declared.messages.message.Message.{Message}
 use Rattle.ln_msgs.specs.declared.messages.message.Message.TheVariants as message
-use Rattle.ln_msgs.specs.declared.refusals.refusal.Refusal.{Refusal}
-use Rattle.ln_msgs.specs.declared.refusals.refusal.Refusal.TheVariants as refusal
+use Rattle.ln_refusals.specs.declared.refusal.Refusal.{Refusal}
+use Rattle.ln_refusals.specs.declared.refusal.Refusal.TheVariants as refusal
 use Rattle.ln_keys.specs.Signer.{Signer}
 use Rattle.ln_log.specs.Machine.{Party, Follows, held}
 use Rattle.ln_log.specs.Log.{party_of}

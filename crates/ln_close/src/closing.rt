@@ -4,7 +4,7 @@ ghost use Rattle.std.specs.Prelude.{◌≡◌};
 ghost use Rattle.ln_close.specs.Closing.{is_fee};
 
 use ln_keys::Role;
-use ln_msgs::Refusal;
+use ln_refusals::Refusal;
 
 /// The fees of a closing transaction that a side takes, in satoshis: `least` <= `first` <= `greatest`.
 #[derive(Clone, Copy, PartialEq, Eq)]

@@ -4,10 +4,10 @@ use Rattle.hex.specs.Hex.{decode_of}
 use Rattle.hex.specs.declared.error.FromHexError.{FromHexError}
 use Rattle.ln_bytes.specs.declared.fault.Fault.{Fault}
 use Rattle.ln_bytes.specs.declared.fault.Fault.TheVariants as faults
-use Rattle.ln_msgs.specs.declared.refusals.refusal.Refusal.{Refusal}
-use Rattle.ln_msgs.specs.declared.refusals.refusal.Refusal.TheVariants.{Memory}
+use Rattle.ln_refusals.specs.declared.refusal.Refusal.{Refusal}
+use Rattle.ln_refusals.specs.declared.refusal.Refusal.TheVariants.{Memory}
 use Rattle.ln_msgs.specs.Messages.Message.{Heard, message_at}
-use Rattle.ln_msgs.specs.Refusals.Refusal.{refusal_of}
+use Rattle.ln_refusals.specs.Refusal.{refusal_of}
 use Rattle.ln_commands.specs.declared.program_error.ProgramError.{ProgramError}
 use Rattle.ln_commands.specs.declared.program_error.ProgramError.TheVariants.{NotHex, Refused}
 use Rattle.ln_text.specs.MessageText.{heard_text}

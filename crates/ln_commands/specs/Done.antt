@@ -4,8 +4,8 @@ use Rattle.std.specs.Prelude.{if◌then◌else◌}
 use Rattle.std.specs.Str.{is_utf8}
 use Rattle.ln_bytes.specs.declared.fault.Fault.{Fault}
 use Rattle.ln_bytes.specs.declared.fault.Fault.TheVariants as fault
-use Rattle.ln_msgs.specs.declared.refusals.refusal.Refusal.TheVariants.{Memory, Io, BadScript}
-use Rattle.ln_msgs.specs.Refusals.Refusal.{refusal_of}
+use Rattle.ln_refusals.specs.declared.refusal.Refusal.TheVariants.{Memory, Io, BadScript}
+use Rattle.ln_refusals.specs.Refusal.{refusal_of}
 use Rattle.ln_msgs.specs.Pings.Counted.{HasRisen}
 use Rattle.ln_msgs.specs.Pings.Answered.{AnswersAll, AnswersUpTo, AnswersSome}
 use Rattle.ln_script.specs.Hook.{SaysOf}

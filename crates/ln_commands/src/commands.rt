@@ -1,7 +1,7 @@
 //! What each command does, over any reader and writer.
 
 ghost use Rattle.std.specs.Prelude.{◌≡◌, ◌⊎◌, ◌+◌, ℕ, Err, OnOk, OnErr, IfOk, IfErr, IfSome};
-ghost use Rattle.ln_msgs.specs.declared.refusals.refusal.Refusal.TheVariants.{Memory, Io, BadScript};
+ghost use Rattle.ln_refusals.specs.declared.refusal.Refusal.TheVariants.{Memory, Io, BadScript};
 ghost use Rattle.ln_msgs.specs.Pings.Counted.{HasRisen};
 ghost use Rattle.ln_msgs.specs.Pings.CountedView.{inner_of, failures_of, calls_of};
 ghost use Rattle.ln_script.specs.Hook.{SaysOf};
@@ -16,7 +16,8 @@ use crate::input::read_all;
 use crate::program_error::ProgramError;
 use crate::simulation::{script_text, simulate};
 use crate::text::decode_text;
-use ln_msgs::{Counted, Refusal, answer_pings};
+use ln_msgs::{Counted, answer_pings};
+use ln_refusals::Refusal;
 use ln_script::{hook_lines, print_all};
 use std::alloc::Global;
 use std::io::{Read, Write};

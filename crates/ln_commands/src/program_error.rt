@@ -1,6 +1,6 @@
 //! Why the program ends without success.
 
-use ln_msgs::Refusal;
+use ln_refusals::Refusal;
 use std::alloc::{AllocError, AllocFailed};
 use thiserror::Error;
 
@@ -48,7 +48,7 @@ impl From<Refusal> for ProgramError {
 impl From<AllocError> for ProgramError {
     ghost use Rattle.std.specs.Prelude.{◌≡◌};
     ghost use Rattle.ln_commands.specs.declared.program_error.ProgramError.TheVariants.{Refused};
-    ghost use Rattle.ln_msgs.specs.declared.refusals.refusal.Refusal.TheVariants.{Memory};
+    ghost use Rattle.ln_refusals.specs.declared.refusal.Refusal.TheVariants.{Memory};
 
     ghost from_gives = { λ _ e. e ≡ Refused Memory };
 
@@ -60,7 +60,7 @@ impl From<AllocError> for ProgramError {
 impl<T: Drop> From<AllocFailed<T>> for ProgramError {
     ghost use Rattle.std.specs.Prelude.{◌≡◌};
     ghost use Rattle.ln_commands.specs.declared.program_error.ProgramError.TheVariants.{Refused};
-    ghost use Rattle.ln_msgs.specs.declared.refusals.refusal.Refusal.TheVariants.{Memory};
+    ghost use Rattle.ln_refusals.specs.declared.refusal.Refusal.TheVariants.{Memory};
 
     ghost from_gives = { λ _ e. e ≡ Refused Memory };
 

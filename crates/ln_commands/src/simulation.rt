@@ -2,14 +2,15 @@
 
 ghost use Rattle.std.specs.Prelude.{◌≡◌, ◌⊎◌, ℕ, true, false, Err, OnOk, OnErr, IfOk, IfErr};
 ghost use Rattle.std.specs.Str.{is_utf8};
-ghost use Rattle.ln_msgs.specs.declared.refusals.refusal.Refusal.TheVariants.{Memory, Io, BadScript};
+ghost use Rattle.ln_refusals.specs.declared.refusal.Refusal.TheVariants.{Memory, Io, BadScript};
 ghost use Rattle.ln_msgs.specs.Pings.Counted.{HasRisen};
 ghost use Rattle.ln_msgs.specs.Pings.CountedView.{inner_of, failures_of};
 ghost use Rattle.ln_script.specs.Script.{script_at};
 ghost use Rattle.ln_script.specs.Report.{ReportsScript, ReportsScriptPartly};
 
 use crate::program_error::ProgramError;
-use ln_msgs::{Counted, Refusal};
+use ln_msgs::Counted;
+use ln_refusals::Refusal;
 use ln_script::report_script;
 use ln_world::Serve;
 use std::alloc::Global;

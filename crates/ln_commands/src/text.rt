@@ -1,12 +1,13 @@
 //! Messages in hexadecimal as text.
 
 ghost use Rattle.std.specs.Prelude.{◌≡◌, ◌⊎◌, MatchResult, Ok, Err, string_bytes};
-ghost use Rattle.ln_msgs.specs.declared.refusals.refusal.Refusal.TheVariants.{Memory};
+ghost use Rattle.ln_refusals.specs.declared.refusal.Refusal.TheVariants.{Memory};
 ghost use Rattle.ln_commands.specs.Text.{decoded};
 
 use crate::program_error::ProgramError;
 use hex::FromHexError;
-use ln_msgs::{Refusal, decode};
+use ln_msgs::decode;
+use ln_refusals::Refusal;
 use ln_text::message_text;
 use std::alloc::Global;
 

@@ -2,7 +2,8 @@
 
 use ln_keys::{ChannelKeys, Signed};
 use ln_log::{Counts, Pair, Side, Update, UpdateLog};
-use ln_msgs::{CommitmentSigned, Records, Refusal, RevokeAndAck};
+use ln_msgs::{CommitmentSigned, Records, RevokeAndAck};
+use ln_refusals::Refusal;
 use std::alloc::Global;
 use std::marker::Model;
 

@@ -7,7 +7,8 @@ use crate::dance::{Dance, Later};
 use crate::messages::update_message;
 use ln_keys::{ChannelKeys, Signed};
 use ln_log::Pair;
-use ln_msgs::{ChannelReestablish, CommitmentSigned, Message, Records, Refusal, RevokeAndAck};
+use ln_msgs::{ChannelReestablish, CommitmentSigned, Message, Records, RevokeAndAck};
+use ln_refusals::Refusal;
 use std::alloc::Global;
 use std::marker::Model;
 

@@ -2,7 +2,7 @@
 
 use ln_bytes::Bytes;
 use ln_keys::ToyOnion;
-use ln_msgs::Refusal;
+use ln_refusals::Refusal;
 use ln_toy_channels::POLICY;
 use std::alloc::Global;
 

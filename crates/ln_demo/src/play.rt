@@ -3,8 +3,9 @@
 use crate::seen::Seen;
 use crate::three::{Tables, Three};
 use ln_hooks::{Call, ChannelEvent, Hook, HookTable, Verdict};
-use ln_msgs::{Counted, Refusal, write_out};
+use ln_msgs::{Counted, write_out};
 use ln_node::Table;
+use ln_refusals::Refusal;
 use std::alloc::Global;
 use std::io::{Read, Write};
 use std::net::{Net, OpenStream};

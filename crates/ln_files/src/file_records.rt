@@ -1,7 +1,7 @@
 //! A store over a file.
 
 use ln_bytes::Bytes;
-use ln_msgs::Refusal;
+use ln_refusals::Refusal;
 use ln_sqlite::SqliteStore;
 use ln_store::RecordStore;
 use sqlite::{Connection, FileStore};

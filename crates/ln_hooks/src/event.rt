@@ -2,12 +2,12 @@
 
 ghost use Rattle.std.specs.Prelude.{◌≡◌, IfOk, IfErr, IsTrue, is_some, not};
 ghost use Rattle.ln_hooks.specs.Event.{event_of, added, settled, is_bounded, is_fee};
-ghost use Rattle.ln_msgs.specs.declared.refusals.refusal.Refusal.TheVariants as refusal;
+ghost use Rattle.ln_refusals.specs.declared.refusal.Refusal.TheVariants as refusal;
 
 use crate::amount::Msat;
 use ln_bytes::Bytes;
 use ln_log::{Add, Update};
-use ln_msgs::Refusal;
+use ln_refusals::Refusal;
 use std::alloc::Global;
 
 /// How an HTLC was removed (BOLT 2, "Removing an HTLC").

@@ -7,7 +7,7 @@ use crate::event::ChannelEvent;
 use crate::hook::Hook;
 use crate::serve::{Serve, Table};
 use crate::verdict::Verdict;
-use ln_msgs::Refusal;
+use ln_refusals::Refusal;
 use std::alloc::Global;
 
 /// Calls each hook on the event, once and in order, whatever those before it answered, and says what is to become of
@@ -35,7 +35,7 @@ pub struct HookTable {
 impl HookTable {
     ghost use Rattle.std.specs.Prelude.{◌≡◌, ◌++◌, ◌∷◌, [], OnOk, OnErr, IfOk, IfErr};
     ghost use Rattle.ln_hooks.specs.Table.{Says, SaysOfEach};
-    ghost use Rattle.ln_msgs.specs.declared.refusals.refusal.Refusal.TheVariants as refusal;
+    ghost use Rattle.ln_refusals.specs.declared.refusal.Refusal.TheVariants as refusal;
 
     /// No hooks. Takes no memory.
     pub fn new(alloc: Global) -> HookTable

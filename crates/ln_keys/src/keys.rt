@@ -3,7 +3,8 @@
 ghost use Rattle.std.specs.Prelude.{◌≡◌, IfOk, IfErr};
 
 use crate::view::View;
-use ln_msgs::{Refusal, Signatures};
+use ln_bytes::Signatures;
+use ln_refusals::Refusal;
 use std::alloc::Global;
 
 /// The signatures of a commitment: over the commitment, and one for each of its HTLCs.

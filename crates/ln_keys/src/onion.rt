@@ -3,7 +3,7 @@
 ghost use Rattle.std.specs.Prelude.{◌≡◌, ℕ, List, Result, Ok, Err, ◌⊎◌, length, IfOk, IfErr, IfSome};
 
 use ln_bytes::Bytes;
-use ln_msgs::Refusal;
+use ln_refusals::Refusal;
 use std::alloc::{AllocError, Global};
 
 /// What a hop finds in an onion (BOLT 4, "Onion Decryption").

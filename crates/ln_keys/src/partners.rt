@@ -6,7 +6,7 @@ ghost use Rattle.ln_keys.specs.Partners.{ArePartners};
 
 use crate::keys::ChannelKeys;
 use crate::view::View;
-use ln_msgs::Refusal;
+use ln_refusals::Refusal;
 use std::alloc::Global;
 
 /// Signs a commitment with one partner's keys and tests the signatures with the other's, which always

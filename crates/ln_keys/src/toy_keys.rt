@@ -11,7 +11,8 @@ ghost use Rattle.ln_keys.specs.Toy.{view_bytes, owner_byte, are_all, AreCrossed}
 use crate::keys::{ChannelKeys, Signed};
 use crate::role::Role;
 use crate::view::{Htlc, View};
-use ln_msgs::{Refusal, Signatures};
+use ln_bytes::Signatures;
+use ln_refusals::Refusal;
 use sha2::{Digest, Sha256};
 use std::alloc::Global;
 

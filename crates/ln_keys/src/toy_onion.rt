@@ -10,7 +10,7 @@ ghost use Rattle.ln_keys.specs.ToyOnion.{hop_of, hop_behind, packet_fault, toy_o
 
 use crate::onion::{Onion, OpenFault, Opened};
 use ln_bytes::{Bytes, read_bigsize, write_bigsize};
-use ln_msgs::Refusal;
+use ln_refusals::Refusal;
 use sha2::{Digest, Sha256};
 use std::alloc::{AllocError, Global};
 

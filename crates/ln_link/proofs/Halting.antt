@@ -3,7 +3,7 @@
 use Rattle.std.proofs.Common.{refl, sym, ◌∙◌, ap, subst, inl, inr, ◌≡◌, ◌⊎◌, List, [], ◌∷◌, Bool, true, false}
 use Rattle.std.proofs.Common.{Option, Result, Ok, Err}
 use Rattle.ln_msgs.specs.declared.messages.message.Message.{Message}
-use Rattle.ln_msgs.specs.declared.refusals.refusal.Refusal.{Refusal}
+use Rattle.ln_refusals.specs.declared.refusal.Refusal.{Refusal}
 use Rattle.ln_keys.specs.Signer.{Signer}
 use Rattle.ln_log.specs.declared.log.Side.{Side}
 use Rattle.ln_channel.specs.declared.command.Command as command

@@ -7,7 +7,7 @@ use Rattle.ln_msgs.specs.Messages.Message.{Heard, Known, wire_bytes}
 use Rattle.ln_msgs.specs.Messages.Typed.{open_wire, accept_wire}
 use Rattle.ln_msgs.specs.declared.messages.opening.OpenChannel.{OpenChannel}
 use Rattle.ln_msgs.specs.declared.messages.opening.AcceptChannel.{AcceptChannel}
-use Rattle.ln_msgs.specs.declared.refusals.refusal.Refusal.{Refusal}
+use Rattle.ln_refusals.specs.declared.refusal.Refusal.{Refusal}
 use Rattle.ln_msgs.proofs.Grammar.{message_again}
 use Rattle.ln_log.specs.Log.{Log, none, after_drop}
 use Rattle.ln_log.specs.RecordForm.{record_form_of, IsRestorable}

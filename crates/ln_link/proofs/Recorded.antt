@@ -1,7 +1,7 @@
 -- What a lost connection leaves of an end is what its record has.
 use Rattle.std.proofs.Common.{◌≡◌, ◌∙◌, ap, arith, take, Option}
 use Rattle.std.proofs.lemmas.List.{take-take}
-use Rattle.ln_msgs.specs.declared.refusals.refusal.Refusal.{Refusal}
+use Rattle.ln_refusals.specs.declared.refusal.Refusal.{Refusal}
 use Rattle.ln_log.specs.Log.{Log, after_drop}
 use Rattle.ln_channel.specs.End.{End, end_dropped}
 use Rattle.ln_channel.specs.Opening.{opening_of}

@@ -2,7 +2,7 @@
 use Rattle.std.proofs.Common.{◌≡◌, ◌∙◌, ap, subst, sym, List, Bool, true, false, not, ◌&&◌, Option, Result, Ok, Err}
 use Rattle.std.proofs.Common.{inr}
 use Rattle.ln_msgs.specs.declared.messages.message.Message.{Message}
-use Rattle.ln_msgs.specs.declared.refusals.refusal.Refusal.{Refusal}
+use Rattle.ln_refusals.specs.declared.refusal.Refusal.{Refusal}
 use Rattle.ln_log.specs.declared.log.Side.{Side}
 use Rattle.ln_log.specs.Log.{Counts, same_counts}
 use Rattle.ln_channel.specs.declared.output.Output.{Output}

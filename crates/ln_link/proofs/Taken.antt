@@ -1,6 +1,6 @@
 -- A link that was loaded of another one's record, and takes over what that had.
 use Rattle.std.proofs.Common.{◌≡◌, ◌∙◌, sym, ap, subst, Option}
-use Rattle.ln_msgs.specs.declared.refusals.refusal.Refusal.{Refusal}
+use Rattle.ln_refusals.specs.declared.refusal.Refusal.{Refusal}
 use Rattle.ln_channel.specs.declared.machine.Stage.{Stage}
 use Rattle.ln_channel.specs.declared.machine.Stage.TheVariants as stage
 use Rattle.ln_channel.specs.End.{End, end_dropped}

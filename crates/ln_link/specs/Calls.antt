@@ -2,7 +2,7 @@
 use Rattle.std.specs.Prelude.{◌≡◌, ◌⊎◌, ◌++◌, ℕ, List, [], ◌∷◌, true, false, Option, Some, None, Result, Ok, Err}
 use Rattle.std.specs.FinMap as map
 use Rattle.ln_msgs.specs.declared.messages.message.Message.{Message}
-use Rattle.ln_msgs.specs.declared.refusals.refusal.Refusal.{Refusal}
+use Rattle.ln_refusals.specs.declared.refusal.Refusal.{Refusal}
 use Rattle.ln_keys.specs.Signer.{Signer}
 use Rattle.ln_channel.specs.declared.command.Command as command
 use Rattle.ln_channel.specs.declared.output.Output.{Output}

@@ -6,7 +6,7 @@ use Rattle.ln_bytes.specs.ShortId.{short_id_bytes}
 use Rattle.ln_msgs.specs.Messages.Message.{Wire, wire_bytes, longest}
 use Rattle.ln_msgs.specs.Messages.Typed.{open_wire, accept_wire}
 use Rattle.ln_msgs.specs.Codec.Writing.{CanBeWritten}
-use Rattle.ln_msgs.specs.declared.refusals.refusal.Refusal.{Refusal}
+use Rattle.ln_refusals.specs.declared.refusal.Refusal.{Refusal}
 use Rattle.ln_keys.specs.declared.role.Role.{Role}
 use Rattle.ln_keys.specs.declared.role.Role.TheVariants.{Funder, Fundee}
 use Rattle.ln_log.specs.declared.log.Counts.{Counts}

@@ -1,7 +1,7 @@
 //! What a record has of an end.
 
 ghost use Rattle.std.specs.Prelude.{◌≡◌, ℕ, List, Option, Some, true, false};
-ghost use Rattle.ln_msgs.specs.declared.refusals.refusal.Refusal.{Refusal};
+ghost use Rattle.ln_refusals.specs.declared.refusal.Refusal.{Refusal};
 ghost use Rattle.ln_keys.specs.Signer.{Signer};
 ghost use Rattle.ln_log.specs.Log.{none};
 ghost use Rattle.ln_channel.specs.End.{End, end_dropped};

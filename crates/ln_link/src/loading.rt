@@ -2,7 +2,7 @@
 
 ghost use Rattle.std.specs.Prelude.{◌≡◌, ◌∷◌, ◌≤◌, ◌⊎◌, ◌↔◌, length, IsTrue, IfOk, IfErr, IsErrOf, Ok, true};
 ghost use Rattle.std.specs.Prelude.{is_some};
-ghost use Rattle.ln_msgs.specs.declared.refusals.refusal.Refusal.TheVariants as refusal;
+ghost use Rattle.ln_refusals.specs.declared.refusal.Refusal.TheVariants as refusal;
 ghost use Rattle.ln_msgs.specs.Messages.Message.{message_at};
 ghost use Rattle.ln_msgs.specs.Messages.Typed.{heard};
 ghost use Rattle.ln_bytes.specs.Reading.{Gives};
@@ -31,7 +31,8 @@ use ln_close::{Closing, Fees};
 use ln_dance::Dance;
 use ln_keys::{ChannelKeys, Role};
 use ln_log::{Add, Balances, Counts, Coverage, Opening, Update, UpdateLog};
-use ln_msgs::{AcceptChannel, Incoming, Message, OpenChannel, Refusal, decode};
+use ln_msgs::{AcceptChannel, Incoming, Message, OpenChannel, decode};
+use ln_refusals::Refusal;
 use ln_store::{
     Agreement, Base, ChainPlace, ClosingFees, Commitments, Covered, Events, Flags, Forwards,
     Header, Items, LiveHtlc, Pairs, Progress, Sides, Updates, Window, decode_record,

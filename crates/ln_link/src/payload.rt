@@ -1,14 +1,15 @@
 //! The messages of an opening, without their types.
 
 ghost use Rattle.std.specs.Prelude.{◌≡◌, ◌⊎◌, drop, IfOk, IfErr, OnOk};
-ghost use Rattle.ln_msgs.specs.declared.refusals.refusal.Refusal.TheVariants as refusal;
+ghost use Rattle.ln_refusals.specs.declared.refusal.Refusal.TheVariants as refusal;
 ghost use Rattle.ln_msgs.specs.Messages.Message.{wire_bytes};
 ghost use Rattle.ln_msgs.specs.Messages.Typed.{open_wire, accept_wire};
 ghost use Rattle.ln_link.specs.Record.{payload_of, IsUnwritable};
 ghost use Rattle.ln_link.specs.Loading.{IsSaid};
 
 use ln_bytes::{Bytes, Fault};
-use ln_msgs::{AcceptChannel, OpenChannel, Refusal};
+use ln_msgs::{AcceptChannel, OpenChannel};
+use ln_refusals::Refusal;
 use std::alloc::Global;
 
 // All but the first 2 bytes.

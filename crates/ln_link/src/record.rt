@@ -1,7 +1,7 @@
 //! The record of an end of a channel.
 
 ghost use Rattle.std.specs.Prelude.{◌≡◌, ◌<◌, ◌^◌, ◌⊎◌, ◌++◌, IfOk, IfErr, IfSome, OnOk, map, option_map, true};
-ghost use Rattle.ln_msgs.specs.declared.refusals.refusal.Refusal.TheVariants as refusal;
+ghost use Rattle.ln_refusals.specs.declared.refusal.Refusal.TheVariants as refusal;
 ghost use Rattle.ln_msgs.specs.Messages.Typed.{open_wire, accept_wire};
 ghost use Rattle.std.specs.List.{filter_map};
 ghost use Rattle.ln_log.specs.Log as logs;
@@ -28,7 +28,7 @@ use ln_close::Closing;
 use ln_dance::Dance;
 use ln_keys::Role;
 use ln_log::{Counts, Decision, Limits, Opening, Pair, Settlement, Side, Update, UpdateLog};
-use ln_msgs::Refusal;
+use ln_refusals::Refusal;
 use ln_store::{
     Agreement, Base, ChainPlace, ClosingFees, Commitments, Covered, Events, Flags, Forwards,
     Header, Items, LinkRecord, Listed, LiveHtlc, Pairs, Progress, Sides, Updates, Window,

@@ -3,7 +3,8 @@
 use ln_bytes::{Bytes, Fault};
 use ln_keys::ToyKeys;
 use ln_link::Link;
-use ln_msgs::{Message, Refusal, encode, fits};
+use ln_msgs::{Message, encode, fits};
+use ln_refusals::Refusal;
 use ln_store::{MemoryStore, RecordStore};
 use ln_tests_ends::FailingStore;
 use std::alloc::{AllocError, Global};

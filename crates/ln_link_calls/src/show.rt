@@ -4,7 +4,8 @@ use crate::end::{CHANNEL, End, written};
 use ln_channel::{ChannelStatus, ConnectionState, Output, Summary};
 use ln_hooks::{ChannelEvent, How};
 use ln_keys::sha256_32;
-use ln_msgs::{Message, Refusal};
+use ln_msgs::Message;
+use ln_refusals::Refusal;
 use ln_store::{Progress, Updates, decode_record};
 use std::alloc::{AllocError, Global};
 use std::fmt::Write;
@@ -100,7 +101,7 @@ fn put_reply(
     refusal: Refusal,
     y: &mut End,
 ) -> Result<(), AllocError> {
-    let reply = refusal.reply(alloc, &CHANNEL);
+    let reply = Message::reply_to(alloc, refusal, &CHANNEL);
     let put = match &reply {
         Ok(Some(message)) => put_sent(alloc, text, message, y),
         Ok(None) => Ok(()),

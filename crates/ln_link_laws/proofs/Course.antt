@@ -17,8 +17,8 @@ use Rattle.ln_msgs.specs.declared.messages.opening.AcceptChannel.{AcceptChannel}
 use Rattle.ln_msgs.specs.declared.messages.opening.FundingCreated.{FundingCreated}
 use Rattle.ln_msgs.specs.declared.messages.opening.FundingSigned.{FundingSigned}
 use Rattle.ln_msgs.specs.declared.messages.opening.OpenChannel.{OpenChannel}
-use Rattle.ln_msgs.specs.declared.refusals.refusal.Refusal.{Refusal}
-use Rattle.ln_msgs.specs.declared.refusals.refusal.Refusal.TheVariants as refusal
+use Rattle.ln_refusals.specs.declared.refusal.Refusal.{Refusal}
+use Rattle.ln_refusals.specs.declared.refusal.Refusal.TheVariants as refusal
 use Rattle.ln_keys.specs.declared.role.Role.{Role}
 use Rattle.ln_keys.specs.declared.role.Role.TheVariants.{Funder, Fundee}
 use Rattle.ln_keys.specs.Role.{other_role}
@@ -60,7 +60,7 @@ use Rattle.ln_channel_laws.proofs.Offered.{not_ready, Steady, first_steady, note
 use Rattle.ln_channel_laws.proofs.Offered.{based_fits, dropped_fits}
 use Rattle.ln_channel_laws.proofs.Offered.{noted_fits, AnswerFits, row_fits, completes, meets_fits, command_fits}
 use Rattle.ln_channel_laws.proofs.Offered.{where_true}
-use Rattle.ln_msgs.specs.Refusals.Refusal.{refusal_number}
+use Rattle.ln_refusals.specs.Refusal.{refusal_number}
 use Rattle.ln_link_laws.specs.Handed.{IsMessage, AreKeys, IsConfig, IsSpec}
 use Rattle.ln_link_laws.specs.Course.{IsSendable}
 use Rattle.ln_link_laws.proofs.Said.{what}

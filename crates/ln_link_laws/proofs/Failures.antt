@@ -1,7 +1,7 @@
 -- A failure of a channel has a number in its record, and none is 70.
 use Rattle.std.proofs.Common.{◌≡◌, refl, true, Option, Some, None}
-use Rattle.ln_msgs.specs.declared.refusals.refusal.Refusal.{Refusal}
-use Rattle.ln_msgs.specs.declared.refusals.refusal.Refusal.TheVariants as refusal
+use Rattle.ln_refusals.specs.declared.refusal.Refusal.{Refusal}
+use Rattle.ln_refusals.specs.declared.refusal.Refusal.TheVariants as refusal
 use Rattle.ln_channel.specs.Failing.{fails}
 use Rattle.ln_store.specs.Items as it
 use Rattle.ln_link_laws.proofs.Other.{IsOther}

@@ -13,7 +13,7 @@ use Rattle.ln_msgs.specs.Messages.Message.{Known, Wire, wire_bytes, message_at}
 use Rattle.ln_msgs.specs.Messages.Typed.{open_wire, accept_wire}
 use Rattle.ln_msgs.specs.Codec.Writing.{MayFollowForm}
 use Rattle.ln_msgs.specs.declared.messages.message.Message.TheVariants as message
-use Rattle.ln_msgs.specs.declared.refusals.refusal.Refusal.{Refusal}
+use Rattle.ln_refusals.specs.declared.refusal.Refusal.{Refusal}
 use Rattle.ln_msgs.specs.Messages.Table.{Form, form_of, open_form, accept_form}
 use Rattle.ln_msgs.proofs.Grammar.{message_again}
 use Rattle.ln_link.specs.Loading.{IsSaid}

@@ -3,7 +3,7 @@
 //! from.
 
 ghost use Rattle.std.specs.Prelude.{◌≡◌, ◌↔◌, List, Ok, Err, true};
-ghost use Rattle.ln_msgs.specs.declared.refusals.refusal.Refusal.TheVariants as refusal;
+ghost use Rattle.ln_refusals.specs.declared.refusal.Refusal.TheVariants as refusal;
 ghost use Rattle.ln_keys.specs.Signer.{Signer};
 ghost use Rattle.ln_keys.specs.Toy.{toy_signer};
 ghost use Rattle.ln_keys.specs.declared.toy_keys.ToyKeys.{ToyKeys};

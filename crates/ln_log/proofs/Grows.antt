@@ -4,10 +4,10 @@ use Rattle.std.proofs.Common.{arith, Bool, true, false, cond, eqb, Option, Some,
 use Rattle.std.proofs.Common.{nat_le, option_map}
 use Rattle.std.proofs.lemmas.List.{take-append-le}
 use Rattle.std.proofs.lemmas.Bool.{leb-false, lt-leb, eqb-true}
-use Rattle.ln_msgs.specs.Refusals.PeerRule.{rule_of}
-use Rattle.ln_msgs.specs.declared.refusals.peer_rule.PeerRule.{PeerRule}
-use Rattle.ln_msgs.specs.declared.refusals.refusal.Refusal.{Refusal}
-use Rattle.ln_msgs.specs.declared.refusals.refusal.Refusal.TheVariants as refusal
+use Rattle.ln_refusals.specs.PeerRule.{rule_of}
+use Rattle.ln_refusals.specs.declared.peer_rule.PeerRule.{PeerRule}
+use Rattle.ln_refusals.specs.declared.refusal.Refusal.{Refusal}
+use Rattle.ln_refusals.specs.declared.refusal.Refusal.TheVariants as refusal
 use Rattle.ln_keys.specs.declared.role.Role.{Role}
 use Rattle.ln_keys.specs.Role.{other_role}
 use Rattle.ln_log.specs.declared.opening.Opening.{Opening}

@@ -3,9 +3,9 @@ use Rattle.std.proofs.Common.{◌≡◌, ℕ, ◌≤◌, List, [], ◌∷◌, le
 use Rattle.std.proofs.Common.{true, false, cond, not, Option, Some, None, is_none, option_map}
 use Rattle.std.proofs.lemmas.List.{take-append-le, take-append-drop, take-take, take_all, map-append, length-map}
 use Rattle.std.proofs.lemmas.List.{length-take-le}
-use Rattle.ln_msgs.specs.declared.refusals.refusal.Refusal.{Refusal}
-use Rattle.ln_msgs.specs.declared.refusals.refusal.Refusal.TheVariants as refusal
-use Rattle.ln_msgs.specs.declared.refusals.peer_rule.PeerRule.TheVariants as rule
+use Rattle.ln_refusals.specs.declared.refusal.Refusal.{Refusal}
+use Rattle.ln_refusals.specs.declared.refusal.Refusal.TheVariants as refusal
+use Rattle.ln_refusals.specs.declared.peer_rule.PeerRule.TheVariants as rule
 use Rattle.ln_log.specs.declared.update.Add.{Add}
 use Rattle.ln_log.specs.declared.update.Removal.{Removal}
 use Rattle.ln_log.specs.declared.update.Update.{Update}

@@ -3,11 +3,11 @@ use Rattle.std.proofs.Common.{◌≡◌, ℕ, ◌+◌, ◌*◌, Bool, true, fals
 use Rattle.std.proofs.Common.{Option, Some, None, refl, subst}
 use Rattle.std.specs.Cmp.Lexicographic.{pointwise}
 use Rattle.ln_keys.specs.Hash.{payment_hash}
-use Rattle.ln_msgs.specs.declared.refusals.refusal.Refusal.TheVariants as refusal
+use Rattle.ln_refusals.specs.declared.refusal.Refusal.TheVariants as refusal
 use Rattle.ln_keys.specs.declared.role.Role.{Role}
 use Rattle.ln_keys.specs.declared.role.Role.TheVariants.{Funder, Fundee}
-use Rattle.ln_msgs.specs.declared.refusals.refusal.Refusal.{Refusal}
-use Rattle.ln_msgs.specs.Refusals.PeerRule.{refusal_by, rule_of}
+use Rattle.ln_refusals.specs.declared.refusal.Refusal.{Refusal}
+use Rattle.ln_refusals.specs.PeerRule.{refusal_by, rule_of}
 use Rattle.ln_log.specs.declared.opening.Opening.{Opening}
 use Rattle.ln_log.specs.declared.update.Add.{Add}
 use Rattle.ln_log.specs.declared.update.Update.{Update}

@@ -15,4 +15,4 @@ pub mod Kept
 pub mod Explained
 pub mod RecordForm
 pub mod Alike
-pub use Rattle.ln_msgs.specs.Refusals.Refusal
+pub use Rattle.ln_refusals.specs.Refusal

@@ -8,7 +8,7 @@ use crate::outcomes::Outcomes;
 use crate::plain::{last_feerate, push_live, sums_of};
 use crate::update::Update;
 use ln_keys::{Htlcs, Role, View};
-use ln_msgs::Refusal;
+use ln_refusals::Refusal;
 use std::alloc::Global;
 
 /// What beginnings of both lists of updates are worth beside their live HTLCs.

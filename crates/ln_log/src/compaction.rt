@@ -16,7 +16,7 @@ use crate::update::{Update, removal_of};
 use crate::window::Window;
 use ln_history::Past;
 use ln_keys::Role;
-use ln_msgs::Refusal;
+use ln_refusals::Refusal;
 use std::alloc::Global;
 
 // Whether each HTLC that these remove has an id below this one.

@@ -3,8 +3,8 @@
 ghost use Rattle.std.specs.Prelude.{◌≡◌, ◌↔◌, ℕ, List, take, length, Bool, true, false, Option, Some, None};
 ghost use Rattle.ln_keys.specs.declared.role.Role.{Role};
 ghost use Rattle.ln_keys.specs.Role.{other_role};
-ghost use Rattle.ln_msgs.specs.declared.refusals.refusal.Refusal.{Refusal};
-ghost use Rattle.ln_msgs.specs.Refusals.PeerRule.{refusal_by, rule_of};
+ghost use Rattle.ln_refusals.specs.declared.refusal.Refusal.{Refusal};
+ghost use Rattle.ln_refusals.specs.PeerRule.{refusal_by, rule_of};
 ghost use Rattle.ln_log.specs.declared.opening.Opening.{Opening};
 ghost use Rattle.ln_log.specs.declared.update.Update.{Update};
 ghost use Rattle.ln_log.specs.Updates.{as_sent, all_sent};

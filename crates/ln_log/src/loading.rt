@@ -24,7 +24,7 @@ use crate::update::{Add, Update};
 use crate::window::Window;
 use ln_history::Past;
 use ln_keys::Role;
-use ln_msgs::Refusal;
+use ln_refusals::Refusal;
 use std::alloc::Global;
 
 /// How many updates of either side the three commitments cover that a side knows of.

@@ -7,7 +7,7 @@ use crate::update::{Add, Update};
 use crate::window::Window;
 use ln_history::Past;
 use ln_keys::{Role, View};
-use ln_msgs::Refusal;
+use ln_refusals::Refusal;
 use std::alloc::Global;
 use std::marker::Model;
 

@@ -8,7 +8,7 @@ ghost use Rattle.ln_log.specs.Outcomes.{removals_in, Tells};
 
 use crate::outcome::Outcome;
 use crate::update::{Update, removal_of};
-use ln_msgs::Refusal;
+use ln_refusals::Refusal;
 use std::alloc::Global;
 use std::collections::BTreeMap;
 use std::marker::Model;

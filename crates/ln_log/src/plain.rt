@@ -16,7 +16,7 @@ use crate::outcome::Outcome;
 use crate::outcomes::{Outcomes, outcome_of};
 use crate::update::{Add, Update};
 use ln_keys::{Htlc, Htlcs, Role, View};
-use ln_msgs::Refusal;
+use ln_refusals::Refusal;
 use std::alloc::Global;
 
 /// The HTLC of an id among those that a side has offered.

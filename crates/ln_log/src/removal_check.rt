@@ -11,7 +11,7 @@ ghost use Rattle.ln_log.specs.Outcomes.{fate, TellsAll};
 use crate::outcome::Outcome;
 use crate::plain::add_of;
 use crate::update::{Update, removal_of};
-use ln_msgs::Refusal;
+use ln_refusals::Refusal;
 use std::alloc::Global;
 use std::collections::BTreeMap;
 

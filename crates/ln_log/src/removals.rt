@@ -6,7 +6,7 @@ ghost use Rattle.ln_log.specs.declared.update.Update.{Update};
 ghost use Rattle.ln_log.specs.Outcomes.{AreRemoved};
 
 use crate::update::{Update, removal_of};
-use ln_msgs::Refusal;
+use ln_refusals::Refusal;
 use std::alloc::Global;
 use std::collections::BTreeSet;
 

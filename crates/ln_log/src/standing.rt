@@ -9,7 +9,7 @@ use crate::outcomes::outcome_of;
 use crate::plain::find_add;
 use crate::update::{Add, Fulfil, Malformed, Update, removal_of};
 use ln_keys::{Role, sha256_32};
-use ln_msgs::Refusal;
+use ln_refusals::Refusal;
 
 /// How one side stands in a commitment: what it has offered, and what it has left.
 #[derive(Clone, Copy, PartialEq, Eq)]

@@ -5,7 +5,7 @@ ghost use Rattle.ln_log.specs.Updates.{removed};
 
 use crate::outcome::Outcome;
 use ln_bytes::Bytes;
-use ln_msgs::Refusal;
+use ln_refusals::Refusal;
 use std::alloc::Global;
 
 /// A channel's id (BOLT 2, "Definition of `channel_id`").

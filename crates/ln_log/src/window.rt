@@ -21,7 +21,7 @@ use crate::plain::{count_adds, find_add};
 use crate::standing::{Standing, update_refusal};
 use crate::update::{Add, Update, removal_of};
 use ln_keys::{Role, View};
-use ln_msgs::{PeerRule, Refusal};
+use ln_refusals::{PeerRule, Refusal};
 use std::alloc::Global;
 use std::marker::Model;
 

@@ -2,4 +2,3 @@ pub mod Messages
 pub mod Codec
 pub mod Frames
 pub mod Pings
-pub mod Refusals

@@ -5,3 +5,4 @@ pub mod Items
 pub mod Forms
 pub mod Channel
 pub mod Features
+pub mod Reply

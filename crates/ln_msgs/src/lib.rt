@@ -1,12 +1,11 @@
-//! Messages of a channel (BOLT 1 and BOLT 2) on a stream of frames, the answerer of pings, and the numbers
-//! by which messages, commands, scripts and records are refused.
+//! Messages of a channel (BOLT 1 and BOLT 2) on a stream of frames, the answerer of pings, and what a peer is told
+//! of a refusal.
 #![tactic(auto)]
 
 mod codec;
 mod frames;
 mod messages;
 mod pings;
-mod refusals;
 
 pub use codec::decoding::{decode, one_message};
 pub use codec::encoding::{LONGEST_MESSAGE, encode};
@@ -24,12 +23,9 @@ pub use messages::opening::{
 };
 pub use messages::records::Records;
 pub use messages::setup::{Error, Init, Ping, Pong, Warning};
-pub use messages::signatures::Signatures;
 pub use messages::updates::{
     UpdateAddHtlc, UpdateFailHtlc, UpdateFailMalformedHtlc, UpdateFee, UpdateFulfillHtlc,
 };
 pub use pings::answer::answer_pings;
 pub use pings::counted::Counted;
 pub use pings::outgoing::write_out;
-pub use refusals::peer_rule::PeerRule;
-pub use refusals::refusal::Refusal;

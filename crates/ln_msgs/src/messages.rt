@@ -10,6 +10,6 @@ pub(crate) mod item_list;
 pub(crate) mod message;
 pub(crate) mod opening;
 pub(crate) mod records;
+pub(crate) mod reply;
 pub(crate) mod setup;
-pub(crate) mod signatures;
 pub(crate) mod updates;

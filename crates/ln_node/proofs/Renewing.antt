@@ -1,6 +1,6 @@
 -- What a connection and a load make of an end, case by case.
 use Rattle.std.proofs.Common.{◌≡◌, true, false, List, [], Result, Ok, Err, refl, sym, subst}
-use Rattle.ln_msgs.specs.declared.refusals.refusal.Refusal.{Refusal}
+use Rattle.ln_refusals.specs.declared.refusal.Refusal.{Refusal}
 use Rattle.ln_keys.specs.Signer.{Signer}
 use Rattle.ln_channel.specs.declared.output.Output.{Output}
 use Rattle.ln_channel.specs.State.{State}

@@ -3,7 +3,8 @@
 use crate::trace::{Step, Traces};
 use ln_channel::Output;
 use ln_log::Mark;
-use ln_msgs::{Message, Refusal};
+use ln_msgs::Message;
+use ln_refusals::Refusal;
 use ln_text::text_of_known;
 use ln_watch::Tally;
 use std::alloc::{AllocError, Global};

@@ -1,7 +1,7 @@
 //! The end of a channel in a node: a link with its store, which begins anew while its opening isn't signed.
 
 ghost use Rattle.std.specs.Prelude.{◌≡◌, Ok, IfOk, IfErr};
-ghost use Rattle.ln_msgs.specs.declared.refusals.refusal.Refusal.TheVariants as refusal;
+ghost use Rattle.ln_refusals.specs.declared.refusal.Refusal.TheVariants as refusal;
 ghost use Rattle.ln_channel.specs.State.{State, StandsFor};
 ghost use Rattle.ln_node_loops.specs.Sent.{loaded};
 ghost use Rattle.ln_node.specs.declared.opening.Beginning.TheVariants.{Fundee, Funder, Over};
@@ -15,8 +15,9 @@ use ln_hooks::ChannelEvent;
 use ln_keys::ChannelKeys;
 use ln_link::Link;
 use ln_log::ChannelId;
-use ln_msgs::{Message, Refusal};
+use ln_msgs::Message;
 use ln_node_loops::{End, SavedLink};
+use ln_refusals::Refusal;
 use ln_store::RecordStore;
 use std::alloc::Global;
 

@@ -2,8 +2,8 @@
 
 use crate::node::Node;
 use ln_keys::{ChannelKeys, Onion};
-use ln_msgs::Refusal;
 use ln_node_loops::Table;
+use ln_refusals::Refusal;
 use ln_store::RecordStore;
 use std::io::{Read, Write};
 use std::net::OpenStream;

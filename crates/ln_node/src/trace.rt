@@ -1,7 +1,7 @@
 //! The steps of a node's channels, for a program that traces them.
 
-use ln_msgs::Refusal;
 use ln_node_loops::Notice;
+use ln_refusals::Refusal;
 use std::alloc::Global;
 use std::mem;
 use std::sync::atomic::{AtomicU64, Ordering};

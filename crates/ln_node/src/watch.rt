@@ -3,8 +3,8 @@
 use crate::node::Node;
 use crate::trace::Trace;
 use ln_keys::{ChannelKeys, Onion};
-use ln_msgs::Refusal;
 use ln_node_loops::Table;
+use ln_refusals::Refusal;
 use ln_store::RecordStore;
 use ln_watch::{ChannelSummary, Counters};
 use std::alloc::Global;
@@ -23,7 +23,7 @@ where
 {
     ghost use Rattle.std.specs.Prelude.{◌≡◌, ◌⊎◌, IfOk, IfErr};
     ghost use Rattle.std.specs.List.{All};
-    ghost use Rattle.ln_msgs.specs.declared.refusals.refusal.Refusal.TheVariants as refusal;
+    ghost use Rattle.ln_refusals.specs.declared.refusal.Refusal.TheVariants as refusal;
     ghost use Rattle.ln_watch.specs.Summary.{IsSummary};
 
     /// What is told of a channel: a copy of the summary that its worker made after its last turn. It is that of its

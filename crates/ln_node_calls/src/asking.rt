@@ -2,9 +2,9 @@
 
 use crate::row::Row;
 use ln_channel::Command;
-use ln_msgs::Refusal;
 use ln_node::{Answer, Signing, Table, Ticket};
 use ln_node_faults::{End, FEE, Gauged, NoHook, order};
+use ln_refusals::Refusal;
 use ln_store::RecordStore;
 use std::net::{Net, TcpListener, TcpStream};
 use std::sync::Wait;

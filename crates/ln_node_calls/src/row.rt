@@ -5,12 +5,13 @@ use ln_bytes::Bytes;
 use ln_channel::Command;
 use ln_hooks::Verdict;
 use ln_keys::{ToyKeys, ToyOnion};
-use ln_msgs::{Refusal, channel_id};
+use ln_msgs::channel_id;
 use ln_node::{Node, Signing, Stored, Table, Ticket};
 use ln_node_faults::{
     A0, AMOUNT, B0, B1, C0, ENDS, End, Gauge, Gauged, NoHook, OpenProxy, SECRET, config, counted,
     is_refused, loopback, order, preimage, state_word, value_of,
 };
+use ln_refusals::Refusal;
 use ln_store::RecordStore;
 use ln_toy_channels::{POLICY, fit_spec};
 use std::alloc::{AllocError, Global};

@@ -3,9 +3,9 @@
 use ln_bytes::Bytes;
 use ln_channel::Command;
 use ln_hooks::FailureCode;
-use ln_msgs::Refusal;
 use ln_node::Signing;
 use ln_node_faults::{A0, B0, B1, C0, CONTINUE, End, HOLD};
+use ln_refusals::Refusal;
 use std::alloc::Global;
 
 /// A word that is none.

@@ -3,7 +3,7 @@
 use ln_bytes::ShortId;
 use ln_channel::FitConfig;
 use ln_keys::ToyKeys;
-use ln_msgs::Refusal;
+use ln_refusals::Refusal;
 use ln_toy_channels::{KEYS, SHORT_IDS, TXIDS, fit_config};
 use std::alloc::Global;
 

@@ -3,7 +3,7 @@
 use ln_bytes::Bytes;
 use ln_channel::Command;
 use ln_keys::{ToyOnion, sha256_32};
-use ln_msgs::Refusal;
+use ln_refusals::Refusal;
 use std::alloc::Global;
 
 /// What the payee gets, in millisatoshi.

@@ -1,7 +1,7 @@
 //! The proxy between two nodes: a thread that hands on what each sends, message by message, and may lose one.
 
 use crate::gauge::is_due;
-use ln_msgs::Refusal;
+use ln_refusals::Refusal;
 use std::alloc::Global;
 use std::io::{Read, Write};
 use std::net::{Net, OpenListener, OpenStream, Shutdown, SocketAddr, TcpListener, TcpStream};

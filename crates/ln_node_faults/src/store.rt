@@ -4,7 +4,7 @@ ghost use Rattle.std.specs.Prelude.{◌≡◌};
 
 use crate::gauge::{Gauge, Gauged, is_due};
 use ln_bytes::Bytes;
-use ln_msgs::Refusal;
+use ln_refusals::Refusal;
 use ln_store::{MemoryStore, RecordStore};
 use std::alloc::{AllocError, Global};
 use std::sync::Arc;

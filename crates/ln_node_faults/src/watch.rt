@@ -1,6 +1,6 @@
 //! What is told of channels and nodes, by words.
 
-use ln_msgs::Refusal;
+use ln_refusals::Refusal;
 use ln_watch::{ChannelState, ChannelSummary, Counters, Decided, HtlcStage};
 
 /// The word for how far a channel is.

@@ -4,7 +4,7 @@ use Rattle.std.proofs.Common.{refl, sym, ap, ◌∙◌, subst, arith, cond, ◌�
 use Rattle.std.proofs.Common.{Result}
 use Rattle.ln_hooks.specs.declared.event.ChannelEvent.{ChannelEvent}
 use Rattle.ln_msgs.specs.declared.messages.message.Message.{Message}
-use Rattle.ln_msgs.specs.declared.refusals.refusal.Refusal.{Refusal}
+use Rattle.ln_refusals.specs.declared.refusal.Refusal.{Refusal}
 use Rattle.ln_channel.specs.declared.output.Output.{Output}
 use Rattle.ln_switch.specs.declared.saying.Saying.{Saying}
 use Rattle.ln_switch.specs.Seen.{Seen}

@@ -3,7 +3,7 @@ use Rattle.std.proofs.Common.{append-nil, ◌++◌, ◌∷◌, ◌≡◌, [], �
 use Rattle.std.proofs.Common.{IfErr, OnOk, refl, sym, ap, ◌∙◌, inl, inr, true, false, subst}
 use Rattle.std.proofs.KnownBytes.{Appends-nil}
 use Rattle.ln_msgs.specs.declared.messages.message.Message.{Message}
-use Rattle.ln_msgs.specs.declared.refusals.refusal.Refusal.{Refusal}
+use Rattle.ln_refusals.specs.declared.refusal.Refusal.{Refusal}
 use Rattle.ln_msgs.specs.Messages.Message.{Wire}
 use Rattle.ln_channel.specs.declared.command.Command.{Command}
 use Rattle.ln_channel.specs.declared.output.Output.{Output}

@@ -4,7 +4,7 @@ use Rattle.std.specs.Prelude.{None, option_map}
 use Rattle.std.specs.List.{slice_get, cons_option}
 use Rattle.std.proofs.Common.{refl, ap, ◌∙◌, sym, cond, arith}
 use Rattle.std.proofs.lemmas.Bool.{ltb-false}
-use Rattle.ln_msgs.specs.declared.refusals.refusal.Refusal.{Refusal}
+use Rattle.ln_refusals.specs.declared.refusal.Refusal.{Refusal}
 use Rattle.ln_log.specs.declared.mark.EventRef.{EventRef}
 use Rattle.ln_log.specs.declared.mark.EventRef.TheVariants as ref
 use Rattle.ln_log.specs.declared.update.Update.{Update}

@@ -4,10 +4,10 @@ use Rattle.std.proofs.Common.{inl, inr, ◌⊎◌, Option, Result, Ok, Err, take
 use Rattle.std.proofs.Math.ListN.{get_or}
 use Rattle.std.proofs.lemmas.List.{take_more, append_assoc}
 use Rattle.std.proofs.lemmas.Grind.{flat_map-append}
-use Rattle.ln_msgs.specs.declared.refusals.refusal.Refusal.{Refusal}
+use Rattle.ln_refusals.specs.declared.refusal.Refusal.{Refusal}
 use Rattle.ln_bytes.specs.declared.fault.Fault.{Fault}
 use Rattle.ln_bytes.specs.declared.fault.Fault.TheVariants as fault
-use Rattle.ln_msgs.specs.Refusals.Refusal.{refusal_of}
+use Rattle.ln_refusals.specs.Refusal.{refusal_of}
 use Rattle.ln_msgs.specs.Messages.Message.{Wire, wire_bytes}
 use Rattle.ln_msgs.specs.Messages.Typed.{wire}
 use Rattle.ln_channel.specs.declared.output.Output.{Output}

@@ -5,8 +5,8 @@ use Rattle.ln_msgs.specs.declared.messages.message.Message.{Message}
 use Rattle.ln_msgs.specs.declared.messages.message.Message.TheVariants as message
 use Rattle.ln_msgs.specs.declared.messages.setup.Init.{Init}
 use Rattle.ln_msgs.specs.Messages.Features.{IsAllKnown, HasUnknown}
-use Rattle.ln_msgs.specs.declared.refusals.refusal.Refusal.{Refusal}
-use Rattle.ln_msgs.specs.Refusals.Refusal.{refusal_number}
+use Rattle.ln_refusals.specs.declared.refusal.Refusal.{Refusal}
+use Rattle.ln_refusals.specs.Refusal.{refusal_number}
 use Rattle.ln_channel.specs.Step.{is_of_records}
 use Rattle.ln_node_loops.specs.Connection.{Connection}
 use Rattle.ln_node_loops.specs.declared.item.Item.{Item}

@@ -4,12 +4,12 @@ use Rattle.std.specs.Prelude.{Result, Ok, Err, option_to_list, if◌then◌else�
 use Rattle.std.specs.List.{flat_map}
 use Rattle.std.specs.Borrow.{Bor}
 use Rattle.ln_msgs.specs.declared.messages.message.Message.{Message}
-use Rattle.ln_msgs.specs.declared.refusals.refusal.Refusal.{Refusal}
+use Rattle.ln_refusals.specs.declared.refusal.Refusal.{Refusal}
 use Rattle.ln_msgs.specs.Frames.Frame.{frame}
 use Rattle.ln_msgs.specs.Messages.Message.{Wire, wire_bytes}
 use Rattle.ln_msgs.specs.Messages.Typed.{wire}
 use Rattle.ln_msgs.specs.Pings.Answer.{pong}
-use Rattle.ln_msgs.specs.Refusals.Reply.{reply_to}
+use Rattle.ln_msgs.specs.Messages.Reply.{reply_to}
 use Rattle.ln_channel.specs.declared.output.Output.{Output}
 use Rattle.ln_channel.specs.declared.output.Output.TheVariants as output
 use Rattle.ln_node_loops.specs.declared.item.Item.{Item}

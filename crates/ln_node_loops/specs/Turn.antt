@@ -1,8 +1,8 @@
 -- One turn of a worker: what an item makes of an end of a channel, and what is written for it.
 use Rattle.std.specs.Prelude.{◌≡◌, ◌⊎◌, ◌<◌, List, [], ◌∷◌, length, Option, Result, Ok, Err, Bool, true, false}
 use Rattle.ln_msgs.specs.declared.messages.message.Message.{Message}
-use Rattle.ln_msgs.specs.declared.refusals.refusal.Refusal.{Refusal}
-use Rattle.ln_msgs.specs.declared.refusals.refusal.Refusal.TheVariants as refusal
+use Rattle.ln_refusals.specs.declared.refusal.Refusal.{Refusal}
+use Rattle.ln_refusals.specs.declared.refusal.Refusal.TheVariants as refusal
 use Rattle.ln_msgs.specs.Codec.Writing.{CanBeWritten}
 use Rattle.ln_msgs.specs.Messages.Message.{Wire, wire_bytes}
 use Rattle.ln_msgs.specs.Messages.Typed.{wire}

@@ -2,8 +2,8 @@
 use Rattle.std.specs.Prelude.{◌≡◌, ◌⊎◌, ℕ, List, [], ◌∷◌, ◌++◌, Option, Some, None, Result, Ok, Err, Bool, true, false}
 use Rattle.std.specs.Prelude.{if◌then◌else◌, nat_lt, ◌||◌, ◌&&◌, not, ⊤}
 use Rattle.ln_msgs.specs.declared.messages.message.Message.{Message}
-use Rattle.ln_msgs.specs.declared.refusals.refusal.Refusal.{Refusal}
-use Rattle.ln_msgs.specs.declared.refusals.refusal.Refusal.TheVariants as refusal
+use Rattle.ln_refusals.specs.declared.refusal.Refusal.{Refusal}
+use Rattle.ln_refusals.specs.declared.refusal.Refusal.TheVariants as refusal
 use Rattle.ln_hooks.specs.declared.event.ChannelEvent.{ChannelEvent}
 use Rattle.ln_channel.specs.declared.command.Command.{Command}
 use Rattle.ln_channel.specs.declared.command.Command.TheVariants as command

@@ -5,7 +5,7 @@ use crate::notice::Notice;
 use ln_channel::Command;
 use ln_hooks::{ChannelEvent, Verdict};
 use ln_log::ChannelId;
-use ln_msgs::Refusal;
+use ln_refusals::Refusal;
 use std::alloc::Global;
 use std::sync::Wait;
 

@@ -3,7 +3,8 @@
 use ln_channel::{Command, Output};
 use ln_hooks::ChannelEvent;
 use ln_log::ChannelId;
-use ln_msgs::{Message, Refusal};
+use ln_msgs::Message;
+use ln_refusals::Refusal;
 use std::alloc::Global;
 
 /// One end of a channel, with the store that it saves in. `State` is what it stands for, with that
@@ -12,8 +13,8 @@ pub trait End {
     ghost use Rattle.std.specs.Prelude.{◌≡◌, ℕ, List, [], Bool, Option, Result, Ok, IfOk, IfErr, OnErr};
     ghost use Rattle.ln_channel.specs.declared.output.Output.{Output};
     ghost use Rattle.ln_hooks.specs.declared.event.ChannelEvent.{ChannelEvent};
-    ghost use Rattle.ln_msgs.specs.declared.refusals.refusal.Refusal.{Refusal};
-    ghost use Rattle.ln_msgs.specs.declared.refusals.refusal.Refusal.TheVariants.{Memory};
+    ghost use Rattle.ln_refusals.specs.declared.refusal.Refusal.{Refusal};
+    ghost use Rattle.ln_refusals.specs.declared.refusal.Refusal.TheVariants.{Memory};
     ghost use Rattle.ln_switch.specs.Seen.{Seen, channel_of, next_htlc};
     ghost use Rattle.ln_node_loops.specs.Act.{Act, Handles, Obeys, Connects, Drops, Loads};
     ghost use Rattle.ln_node_loops.specs.Sent.{listed, loaded};

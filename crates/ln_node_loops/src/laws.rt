@@ -3,7 +3,7 @@
 ghost use Rattle.std.specs.Prelude.{◌≡◌, ◌++◌, ◌∷◌, ◌-◌, ℕ, map, List, [], Option, Bool, true};
 ghost use Rattle.ln_hooks.specs.declared.event.ChannelEvent.{ChannelEvent};
 ghost use Rattle.ln_msgs.specs.declared.messages.message.Message.{Message};
-ghost use Rattle.ln_msgs.specs.declared.refusals.refusal.Refusal.{Refusal};
+ghost use Rattle.ln_refusals.specs.declared.refusal.Refusal.{Refusal};
 ghost use Rattle.ln_channel.specs.End as channel;
 ghost use Rattle.ln_channel.specs.Pending.{pending_events};
 ghost use Rattle.ln_link.specs.Record.{items_of};

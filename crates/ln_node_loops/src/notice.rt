@@ -1,7 +1,7 @@
 //! What becomes of a channel's connections and of its end.
 
 use ln_bytes::Fault;
-use ln_msgs::Refusal;
+use ln_refusals::Refusal;
 
 /// What has become of a channel's connection, or of its end.
 #[derive(Clone, Copy, PartialEq, Eq, Debug)]

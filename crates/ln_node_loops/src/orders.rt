@@ -1,6 +1,6 @@
 //! What a worker has of those who order its end to do something.
 
-use ln_msgs::Refusal;
+use ln_refusals::Refusal;
 use std::sync::Wait;
 
 /// Where a worker replies to orders, once to each, in the order in which they were given, and learns whether it is to

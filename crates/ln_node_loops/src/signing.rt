@@ -8,7 +8,7 @@ ghost use Rattle.ln_node_loops.specs.Signing.{owes_by, owes_signature};
 use ln_channel::{Channel, ChannelMachine};
 use ln_dance::{Dance, LAST_NUMBER};
 use ln_keys::ChannelKeys;
-use ln_msgs::Refusal;
+use ln_refusals::Refusal;
 
 // What keeps a side from signing.
 fn sign_refusal(dance: &Dance) -> Option<Refusal>

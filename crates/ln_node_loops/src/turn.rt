@@ -4,7 +4,7 @@ ghost use Rattle.std.specs.Prelude.{◌≡◌, ◌++◌, ◌∷◌, [], OnOk, If
 ghost use Rattle.std.specs.Prelude.{option_copied, List, option_map, Some, Err, ◌≤◌, length};
 ghost use Rattle.ln_msgs.specs.Messages.Message.{Wire, wire_bytes};
 ghost use Rattle.ln_msgs.specs.Messages.Typed.{wire};
-ghost use Rattle.ln_msgs.specs.Refusals.Reply.{reply_to};
+ghost use Rattle.ln_msgs.specs.Messages.Reply.{reply_to};
 ghost use Rattle.ln_channel.specs.Step.{is_of_records};
 ghost use Rattle.ln_node_loops.specs.declared.item.Item.TheVariants as item;
 ghost use Rattle.ln_node_loops.specs.declared.kind.Kind.TheVariants as kind;
@@ -20,7 +20,8 @@ use crate::kind::{Kind, kind_of};
 use crate::wire::Carries;
 use ln_bytes::Bytes;
 use ln_channel::{Command, Output};
-use ln_msgs::{Counted, Message, Pong, Records, Refusal, encode, fits};
+use ln_msgs::{Counted, Message, Pong, Records, encode, fits};
+use ln_refusals::Refusal;
 use std::alloc::Global;
 use std::io::Write;
 
@@ -236,7 +237,7 @@ fn reply_to(alloc: Global, id: &[u8; 32], why: Refusal) -> Result<Option<Message
     ensures reply { IfOk result (λ m. option_to_list (option_map wire m) ≡ option_to_list (reply_to why id.now)) }
     ensures fails_for_memory_alone { IfErr result (λ e. e ≡ Refusal.Memory) }
 {
-    why.reply(alloc, id)
+    Message::reply_to(alloc, why, id)
 }
 
 // Sends what is due for an answer to a message: what the end sends, or the reply to the peer.

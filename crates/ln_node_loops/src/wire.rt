@@ -1,6 +1,7 @@
 //! The connection of a worker, or none.
 
-use ln_msgs::{Counted, Refusal, write_out};
+use ln_msgs::{Counted, write_out};
+use ln_refusals::Refusal;
 use std::io::Write;
 
 /// A writer of a connection that can be closed.

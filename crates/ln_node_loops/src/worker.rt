@@ -8,7 +8,7 @@ ghost use Rattle.ln_node_loops.specs.declared.worker.Phase.TheVariants as phase;
 ghost use Rattle.ln_node_loops.specs.Phase.{is_lost, is_refused, init_in, Greets};
 ghost use Rattle.ln_channel.specs.Step.{is_of_records};
 ghost use Rattle.ln_node_loops.specs.declared.wire.Wire.TheVariants as wire;
-ghost use Rattle.ln_msgs.specs.declared.refusals.refusal.Refusal.TheVariants as refusal;
+ghost use Rattle.ln_refusals.specs.declared.refusal.Refusal.TheVariants as refusal;
 ghost use Rattle.ln_node_loops.specs.Wire.{connection_at};
 
 use crate::end::End;
@@ -17,7 +17,8 @@ use crate::turn::{Obeyed, is_of_records, obey_turn, take_turn};
 use crate::wire::{Closes, Wire};
 use ln_channel::{Command, Output};
 use ln_hooks::ChannelEvent;
-use ln_msgs::{Counted, Init, Message, Refusal, check_init};
+use ln_msgs::{Counted, Init, Message, check_init};
+use ln_refusals::Refusal;
 use std::alloc::Global;
 use std::sync::Wait;
 use std::{mem, thread};

@@ -8,8 +8,8 @@ use Rattle.ln_msgs.specs.declared.messages.message.Message.TheVariants as messag
 use Rattle.ln_msgs.specs.declared.messages.closing.ClosingSigned.{ClosingSigned}
 use Rattle.ln_msgs.specs.declared.messages.closing.Shutdown.{Shutdown}
 use Rattle.ln_msgs.specs.declared.messages.commitments.ChannelReestablish.{ChannelReestablish}
-use Rattle.ln_msgs.specs.declared.refusals.refusal.Refusal.{Refusal}
-use Rattle.ln_msgs.specs.declared.refusals.refusal.Refusal.TheVariants as refusal
+use Rattle.ln_refusals.specs.declared.refusal.Refusal.{Refusal}
+use Rattle.ln_refusals.specs.declared.refusal.Refusal.TheVariants as refusal
 use Rattle.ln_keys.specs.Signer.{Signer}
 use Rattle.ln_log.specs.declared.update.Update.{Update}
 use Rattle.ln_log.specs.declared.update.Update.TheVariants as update

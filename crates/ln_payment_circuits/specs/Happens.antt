@@ -1,7 +1,7 @@
 -- What may happen to a node between one moment and the next: to one of its channels, to its book, or to all of it.
 use Rattle.std.specs.Prelude.{◌≡◌, ℕ, List, [], ◌∷◌, take, map, Bool, true, false, ◌==◌, ◌||◌, Option, Some, None}
 use Rattle.std.specs.Prelude.{option_map, Result, Ok, if◌then◌else◌}
-use Rattle.ln_msgs.specs.declared.refusals.refusal.Refusal.{Refusal}
+use Rattle.ln_refusals.specs.declared.refusal.Refusal.{Refusal}
 use Rattle.ln_keys.specs.Signer.{Signer}
 use Rattle.ln_log.specs.declared.mark.Mark.{Mark}
 use Rattle.ln_log.specs.declared.mark.Mark.TheVariants as mark

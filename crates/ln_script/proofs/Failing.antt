@@ -1,7 +1,7 @@
 -- By what a step of a script may fail: by want of memory, or by 70 where the world says so.
 use Rattle.std.proofs.Common.{◌≡◌, Option, Some, None, refl, inl, inr, ◌⊎◌}
-use Rattle.ln_msgs.specs.declared.refusals.refusal.Refusal.{Refusal}
-use Rattle.ln_msgs.specs.declared.refusals.refusal.Refusal.TheVariants as refusal
+use Rattle.ln_refusals.specs.declared.refusal.Refusal.{Refusal}
+use Rattle.ln_refusals.specs.declared.refusal.Refusal.TheVariants as refusal
 use Rattle.ln_keys.specs.declared.toy_keys.ToyKeys.{ToyKeys}
 use Rattle.ln_world_channels.specs.declared.step.Step.{Step as ChannelStep}
 use Rattle.ln_world_channels.specs.declared.step.Step.TheVariants as step

@@ -4,8 +4,8 @@ use Rattle.std.proofs.Common.{length, map, get_or, drop, refl, sym, ap, subst, â
 use Rattle.std.proofs.Common.{inl, inr}
 use Rattle.std.specs.List.{count_by}
 use Rattle.ln_msgs.specs.Pings.Counted.{HasRisen}
-use Rattle.ln_msgs.specs.declared.refusals.refusal.Refusal.{Refusal}
-use Rattle.ln_msgs.specs.declared.refusals.refusal.Refusal.TheVariants as refusal
+use Rattle.ln_refusals.specs.declared.refusal.Refusal.{Refusal}
+use Rattle.ln_refusals.specs.declared.refusal.Refusal.TheVariants as refusal
 use Rattle.ln_keys.specs.declared.toy_keys.ToyKeys.{ToyKeys}
 use Rattle.ln_hooks.specs.declared.event.ChannelEvent.{ChannelEvent}
 use Rattle.ln_hooks.specs.declared.verdict.Verdict.{Verdict}

@@ -2,7 +2,7 @@
 
 ghost use Rattle.std.specs.Prelude.{◌≡◌, IfOk, IfErr, option_map};
 ghost use Rattle.ln_keys.specs.ToyOnion.{toy_made};
-ghost use Rattle.ln_msgs.specs.declared.refusals.refusal.Refusal.TheVariants as refusal;
+ghost use Rattle.ln_refusals.specs.declared.refusal.Refusal.TheVariants as refusal;
 ghost use Rattle.ln_script.specs.Onion.{payloads_at};
 ghost use Rattle.ln_script.specs.Command.{preimage_of, hash_of, reason_of, confirm_at, add_at, fulfil_at, fail_at};
 ghost use Rattle.ln_script.specs.Command.{malformed_at, fee_at, shutdown_by, onion_at, confirm_line, add_line};
@@ -15,7 +15,7 @@ use crate::word::{code_of, decimal_of, number_of_32_bits, payment_of, short_id_o
 use ln_bytes::Bytes;
 use ln_channel::Command;
 use ln_keys::{ToyOnion, sha256_32};
-use ln_msgs::Refusal;
+use ln_refusals::Refusal;
 use ln_world::Node;
 use std::alloc::Global;
 

@@ -10,7 +10,7 @@ ghost use Rattle.ln_script.specs.LineText.{resumed_text};
 
 use ln_channel::{ChannelStatus, Summary};
 use ln_hooks::{FailureCode, Verdict};
-use ln_msgs::Refusal;
+use ln_refusals::Refusal;
 use ln_world::{Choice, End, EndLine, Ending, Line, Node, Word};
 use std::alloc::AllocError;
 use std::fmt::Write;

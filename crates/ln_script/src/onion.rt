@@ -5,14 +5,14 @@ ghost use Rattle.std.specs.Prelude.{option_map, replicate};
 ghost use Rattle.ln_bytes.specs.ShortId.{short_id_bytes};
 ghost use Rattle.ln_bytes.specs.Tlv.{as_record, stream_bytes};
 ghost use Rattle.ln_bytes.specs.Truncated.{truncated};
-ghost use Rattle.ln_msgs.specs.declared.refusals.refusal.Refusal.TheVariants as refusal;
+ghost use Rattle.ln_refusals.specs.declared.refusal.Refusal.TheVariants as refusal;
 ghost use Rattle.ln_script.specs.Onion.{hop_at, hop_payload, last_payload, payloads_at, front_hop};
 ghost use Rattle.ln_script.specs.Step.{texts};
 
 use crate::hop::Hop;
 use crate::word::{decimal_of, number_of_32_bits, short_id_of};
 use ln_bytes::{Bytes, Record, ShortId, append_tlvs, write_tu64};
-use ln_msgs::Refusal;
+use ln_refusals::Refusal;
 use std::alloc::Global;
 
 fn number_record(alloc: Global, typ: u64, number: u64) -> Result<Record, Refusal>

@@ -2,12 +2,13 @@
 
 ghost use Rattle.std.specs.Prelude.{◌≡◌, OnOk, IfErr};
 ghost use Rattle.std.specs.Io.KnownBytes.{Appends};
-ghost use Rattle.ln_msgs.specs.declared.refusals.refusal.Refusal.TheVariants.{Io};
+ghost use Rattle.ln_refusals.specs.declared.refusal.Refusal.TheVariants.{Io};
 ghost use Rattle.ln_msgs.specs.Pings.Counted.{HasRisen};
 ghost use Rattle.ln_msgs.specs.Pings.CountedView.{inner_of, failures_of, calls_of};
 ghost use Rattle.ln_msgs.specs.Pings.Written.{IsPartlyWritten};
 
-use ln_msgs::{Counted, Refusal, write_out};
+use ln_msgs::{Counted, write_out};
+use ln_refusals::Refusal;
 use std::io::Write;
 
 /// Writes all of a text and flushes the writer. Takes no memory. No writer's contract tells what was flushed; that the

@@ -2,7 +2,7 @@
 
 ghost use Rattle.std.specs.Prelude.{◌≡◌, ℕ, ◌⊎◌, ◌++◌, ◌+◌, ◌<◌, ◌≤◌, Ok, Err, OnOk, IfOk, IfErr};
 ghost use Rattle.std.specs.List.{flat_map, count_by};
-ghost use Rattle.ln_msgs.specs.declared.refusals.refusal.Refusal.TheVariants.{Memory, BadScript};
+ghost use Rattle.ln_refusals.specs.declared.refusal.Refusal.TheVariants.{Memory, BadScript};
 ghost use Rattle.ln_script.specs.Step.{texts, if_good, joined, with_place, is_hook, next_place, numbered};
 ghost use Rattle.ln_script.specs.Script.{lines, words, is_skipped, line_at, steps_from, script_at, hooks_at};
 ghost use Rattle.ln_script.specs.Script.{line_hooks};
@@ -12,7 +12,7 @@ ghost use Rattle.ln_script.specs.Hook.{hooked_at};
 use crate::hook::{HookLine, hooked_by};
 use crate::step::push_steps;
 use ln_keys::ToyKeys;
-use ln_msgs::Refusal;
+use ln_refusals::Refusal;
 use ln_world::Step;
 use std::alloc::{AllocError, Global};
 

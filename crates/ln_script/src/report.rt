@@ -3,7 +3,7 @@
 ghost use Rattle.std.specs.Prelude.{◌≡◌, ◌≢◌, ◌++◌, ◌⊎◌, ◌≤◌, [], length, map, OnOk, OnErr, IfOk, IfErr, string_bytes};
 ghost use Rattle.std.specs.List.{flat_map};
 ghost use Rattle.std.specs.Io.KnownBytes.{Appends};
-ghost use Rattle.ln_msgs.specs.declared.refusals.refusal.Refusal.TheVariants.{Memory, Damaged, Io};
+ghost use Rattle.ln_refusals.specs.declared.refusal.Refusal.TheVariants.{Memory, Damaged, Io};
 ghost use Rattle.ln_msgs.specs.Pings.Counted.{HasRisen};
 ghost use Rattle.ln_msgs.specs.Pings.CountedView.{inner_of, failures_of};
 ghost use Rattle.ln_msgs.specs.Pings.Written.{IsPartlyWritten};
@@ -19,7 +19,8 @@ ghost use Rattle.ln_script.specs.Wide.{AreAsWide};
 use crate::line::{put_end_line, put_line};
 use crate::print::print_all;
 use ln_keys::ToyKeys;
-use ln_msgs::{Counted, Refusal, write_out};
+use ln_msgs::{Counted, write_out};
+use ln_refusals::Refusal;
 use ln_world::{EndLine, Line, Serve, Step, World, every_end_has_a_record};
 use std::alloc::{AllocError, Global};
 use std::io::Write;

@@ -1,7 +1,7 @@
 //! Scripts that run: each line is read when those before it are told.
 
 ghost use Rattle.std.specs.Prelude.{◌≡◌, ◌⊎◌, ◌≤◌, ℕ, List, None, Some, Ok, Err, length, map, OnOk, OnErr, IfOk, IfErr};
-ghost use Rattle.ln_msgs.specs.declared.refusals.refusal.Refusal.TheVariants.{Memory, BadScript, Io};
+ghost use Rattle.ln_refusals.specs.declared.refusal.Refusal.TheVariants.{Memory, BadScript, Io};
 ghost use Rattle.ln_msgs.specs.Pings.Counted.{HasRisen};
 ghost use Rattle.ln_msgs.specs.Pings.CountedView.{inner_of, failures_of};
 ghost use Rattle.ln_script.specs.Step.{texts, numbered, ToyStep};
@@ -12,7 +12,8 @@ use crate::laws::steps_are_wide;
 use crate::reading::{lines_of, place_hooks, read_line};
 use crate::report::{print_each, print_ends};
 use ln_keys::ToyKeys;
-use ln_msgs::{Counted, Refusal};
+use ln_msgs::Counted;
+use ln_refusals::Refusal;
 use ln_world::{Serve, Step, World, every_end_has_a_record};
 use std::alloc::Global;
 use std::io::Write;

@@ -1,7 +1,7 @@
 //! The steps of a line.
 
 ghost use Rattle.std.specs.Prelude.{◌≡◌, ◌++◌, IfOk, IfErr, OnOk};
-ghost use Rattle.ln_msgs.specs.declared.refusals.refusal.Refusal.TheVariants as refusal;
+ghost use Rattle.ln_refusals.specs.declared.refusal.Refusal.TheVariants as refusal;
 ghost use Rattle.ln_script.specs.Step.{texts, fees_at, limits_at, policy_at, fees_line, limits_line, policy_line};
 ghost use Rattle.ln_script.specs.Step.{setting_at, set_line, height_line, invoice_of, expect_at, expect_line};
 ghost use Rattle.ln_script.specs.Step.{dispatch_line, register_line, take_line, decide_line, other_step_at};
@@ -24,7 +24,7 @@ use ln_forward::Expected;
 use ln_hooks::Verdict;
 use ln_keys::ToyKeys;
 use ln_log::Limits;
-use ln_msgs::Refusal;
+use ln_refusals::Refusal;
 use ln_world::{Act, End, Invoice, Node, Open, Policy, Step};
 use std::alloc::Global;
 

@@ -14,7 +14,7 @@ ghost use Rattle.ln_sqlite.specs.Begins.{AreRecords, Stays};
 use crate::copies::Copies;
 use crate::statements::all_rows;
 use ln_bytes::Bytes;
-use ln_msgs::Refusal;
+use ln_refusals::Refusal;
 use sqlite::types::ValueRef;
 use sqlite::{Alter, Connection, Row};
 use std::alloc::Global;

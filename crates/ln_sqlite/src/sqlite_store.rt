@@ -15,7 +15,7 @@ use crate::rows::read_copies;
 use crate::statements::{has_ids, load_rows, make_table, save_row};
 use crate::table::{is_empty, is_table_of_records};
 use ln_bytes::Bytes;
-use ln_msgs::Refusal;
+use ln_refusals::Refusal;
 use ln_store::RecordStore;
 use sqlite::{Alter, Connection};
 use std::alloc::Global;

@@ -11,8 +11,8 @@ use Rattle.std.specs.Cmp.Lexicographic.{same_text, pointwise}
 use Rattle.byteorder.specs.Endian.{big_bytes, big_number}
 use Rattle.byteorder.specs.Numbers.{big_number-reads_back, length-bytes_high_first}
 use Rattle.sha2.proofs.Facts256.{length-sha256}
-use Rattle.ln_msgs.specs.declared.refusals.refusal.Refusal.{Refusal}
-use Rattle.ln_msgs.specs.declared.refusals.refusal.Refusal.TheVariants as refusal
+use Rattle.ln_refusals.specs.declared.refusal.Refusal.{Refusal}
+use Rattle.ln_refusals.specs.declared.refusal.Refusal.TheVariants as refusal
 use Rattle.ln_bytes.proofs.Reading.{IsBytes, IsBytes-drop, IsBytes-rest, chosen}
 use Rattle.ln_bytes.proofs.Numbers.{bytes_back}
 use Rattle.ln_keys.specs.Hash.{payment_hash as digest}

@@ -6,8 +6,8 @@ use Rattle.std.specs.Prelude.{Option, Some, None, Result, Ok, Err, if◌then◌e
 use Rattle.ln_bytes.specs.Answers as answers
 use Rattle.ln_bytes.specs.Endian.{big_bytes, big_number}
 use Rattle.ln_bytes.specs.Same.{are_same}
-use Rattle.ln_msgs.specs.declared.refusals.refusal.Refusal.{Refusal}
-use Rattle.ln_msgs.specs.declared.refusals.refusal.Refusal.TheVariants as refusal
+use Rattle.ln_refusals.specs.declared.refusal.Refusal.{Refusal}
+use Rattle.ln_refusals.specs.declared.refusal.Refusal.TheVariants as refusal
 use Rattle.ln_log.specs.Mark.{is_held}
 use Rattle.ln_keys.specs.Hash.{payment_hash as digest}
 use Rattle.ln_store.specs.declared.record.Items.{Items}

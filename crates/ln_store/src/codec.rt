@@ -19,7 +19,7 @@ use crate::stored::{Stored, put, put_u16, put_u64};
 use byteorder::{BigEndian, ByteOrder};
 use ln_keys::sha256_32;
 use ln_log::Decision;
-use ln_msgs::Refusal;
+use ln_refusals::Refusal;
 use std::alloc::Global;
 
 /// "LNLR".

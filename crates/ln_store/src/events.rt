@@ -12,7 +12,7 @@ use crate::stored::{
 };
 use crate::updates::removal_at;
 use ln_log::{ChannelId, Decision, EventRef, Mark, Settlement, removal_of};
-use ln_msgs::Refusal;
+use ln_refusals::Refusal;
 use std::alloc::Global;
 
 impl Stored for EventRef {

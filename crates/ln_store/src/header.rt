@@ -16,7 +16,7 @@ use ln_bytes::Bytes;
 use ln_close::Fees;
 use ln_dance::{Later, Numbers, Peer};
 use ln_keys::Role;
-use ln_msgs::Refusal;
+use ln_refusals::Refusal;
 use std::alloc::Global;
 
 fn bit(flag: bool) -> u8

@@ -11,7 +11,7 @@ use crate::record::{
     Updates, Window,
 };
 use crate::stored::{Stored, put_u32, put_u64, u32_at, u32_fits, u64_at, u64_fits};
-use ln_msgs::Refusal;
+use ln_refusals::Refusal;
 use std::alloc::Global;
 
 impl Stored for Sides {

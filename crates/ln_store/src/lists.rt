@@ -7,7 +7,7 @@ ghost use Rattle.ln_store.specs.Format.{optional_at as optional_in, fixed};
 
 use crate::list::Listed;
 use crate::stored::{Stored, array_at, put, put_u8, put_u64, u64_at};
-use ln_msgs::Refusal;
+use ln_refusals::Refusal;
 use std::alloc::Global;
 
 // So many values one behind the other.

@@ -2,7 +2,7 @@
 
 use crate::record_store::RecordStore;
 use ln_bytes::Bytes;
-use ln_msgs::Refusal;
+use ln_refusals::Refusal;
 use std::alloc::Global;
 use std::collections::BTreeMap;
 use std::marker::Model;

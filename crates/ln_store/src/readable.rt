@@ -16,7 +16,8 @@ use ln_bytes::Fault;
 use ln_dance::Numbers;
 use ln_keys::Role;
 use ln_log::EventRef;
-use ln_msgs::{Incoming, Message, Refusal, decode};
+use ln_msgs::{Incoming, Message, decode};
+use ln_refusals::Refusal;
 use std::alloc::Global;
 
 /// The most that a channel is opened with, in satoshi.

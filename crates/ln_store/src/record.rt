@@ -7,7 +7,7 @@ use ln_close::Fees;
 use ln_dance::{Later, Numbers, Peer};
 use ln_keys::Role;
 use ln_log::{Add, ChannelId, Decision, EventRef, Settlement, Update};
-use ln_msgs::Refusal;
+use ln_refusals::Refusal;
 
 /// What a side has sent and taken beside updates and signatures.
 #[derive(Clone, Copy, PartialEq, Eq)]

@@ -5,7 +5,7 @@ ghost use Rattle.std.specs.FinMap as map;
 ghost use Rattle.ln_store.specs.Store.{IsOneOf, CountsFailures};
 
 use ln_bytes::Bytes;
-use ln_msgs::Refusal;
+use ln_refusals::Refusal;
 use std::alloc::Global;
 
 /// Stores a record for each of any number of ids.

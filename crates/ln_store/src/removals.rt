@@ -14,7 +14,7 @@ use crate::record::{LiveHtlc, Updates};
 use crate::window::{count_of, window_of};
 use ln_keys::Role;
 use ln_log::{Update, count_adds, removal_of};
-use ln_msgs::Refusal;
+use ln_refusals::Refusal;
 use std::alloc::Global;
 use std::collections::BTreeSet;
 

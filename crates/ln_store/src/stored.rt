@@ -5,7 +5,7 @@ ghost use Rattle.ln_store.specs.Format.{Finds, number, fixed, sized, number_at a
 
 use byteorder::{BigEndian, ByteOrder};
 use ln_bytes::Bytes;
-use ln_msgs::Refusal;
+use ln_refusals::Refusal;
 use std::alloc::Global;
 
 /// A value that is stored in one form.

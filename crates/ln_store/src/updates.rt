@@ -12,7 +12,7 @@ use crate::stored::{
 };
 use ln_keys::Role;
 use ln_log::{Add, ChannelId, Fail, Fee, Fulfil, Malformed, Update, removal_of};
-use ln_msgs::Refusal;
+use ln_refusals::Refusal;
 use std::alloc::Global;
 
 impl Stored for (ChannelId, u64) {

@@ -15,7 +15,7 @@ use crate::removals::{are_one_side, is_there};
 use crate::window::{count_of, window_of};
 use ln_keys::Role;
 use ln_log::{Outcome, Outcomes, Update, count_adds, removal_of, sums_of};
-use ln_msgs::Refusal;
+use ln_refusals::Refusal;
 use std::alloc::Global;
 
 // Whether an update removes nothing, or an HTLC of this side, which offers so many from this id on, that is there.

@@ -10,7 +10,7 @@ use crate::removals::removals_fit;
 use crate::views::views_fit;
 use ln_keys::Role;
 use ln_log::{MOST_UPDATES, Update};
-use ln_msgs::Refusal;
+use ln_refusals::Refusal;
 use std::alloc::Global;
 
 pub(crate) fn count_of(side: Role, sides: &Sides) -> u64

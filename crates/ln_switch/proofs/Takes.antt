@@ -1,7 +1,7 @@
 -- Which payments an end takes, by what refuses an offer.
 use Rattle.std.proofs.Common.{◌≡◌, Bool, true, false, Some, None, refl, cond}
 use Rattle.std.specs.Prelude.{not, ◌&&◌, ◌||◌, is_none}
-use Rattle.ln_msgs.specs.declared.refusals.refusal.Refusal.TheVariants as refusal
+use Rattle.ln_refusals.specs.declared.refusal.Refusal.TheVariants as refusal
 
 -- an end that has sent channel_ready and taken it, and neither sent shutdown nor taken it
 pub no-fault : (sent received shut peer_shut closed : Bool)

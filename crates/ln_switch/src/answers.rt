@@ -5,7 +5,7 @@ ghost use Rattle.ln_switch.specs.Answers.{next_id, command_subject, answer_to, w
 
 use ln_book_tables::is_later;
 use ln_channel::{Channel, Command};
-use ln_msgs::Refusal;
+use ln_refusals::Refusal;
 
 /// The id of the next HTLC that an end offers; 0 before both have signed its opening. Takes no memory.
 pub fn next_id(end: Option<&Channel>) -> u64

@@ -12,7 +12,7 @@ use ln_history::Past;
 use ln_hooks::{ChannelEvent, Verdict};
 use ln_keys::Onion;
 use ln_log::{ChannelId, Mark};
-use ln_msgs::Refusal;
+use ln_refusals::Refusal;
 use std::alloc::Global;
 
 /// A handle of the book of a node, by which one of its threads tells it things and asks for commands. It knows all that

@@ -1,12 +1,12 @@
 //! What a book reads off an end as its node starts.
 
 ghost use Rattle.std.specs.Prelude.{◌≡◌, ◌++◌, OnOk, IfErr, option_copied};
-ghost use Rattle.ln_msgs.specs.declared.refusals.refusal.Refusal.TheVariants as refusal;
+ghost use Rattle.ln_refusals.specs.declared.refusal.Refusal.TheVariants as refusal;
 ghost use Rattle.ln_switch.specs.Snapshots.{snapshot_by};
 
 use ln_book_recovery::ChannelSnapshot;
 use ln_channel::Channel;
-use ln_msgs::Refusal;
+use ln_refusals::Refusal;
 use std::alloc::Global;
 
 /// Reads an end, where both have signed its opening, as the next of these. Takes memory. Error: 60 alone.

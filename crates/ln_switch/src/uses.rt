@@ -1,7 +1,7 @@
 //! Which payments a channel's end takes.
 
 ghost use Rattle.std.specs.Prelude.{◌≡◌, ◌⊎◌, ◌↔◌, OnOk, OnErr, IfErr, option_map, true, Some};
-ghost use Rattle.ln_msgs.specs.declared.refusals.refusal.Refusal.TheVariants as refusal;
+ghost use Rattle.ln_refusals.specs.declared.refusal.Refusal.TheVariants as refusal;
 ghost use Rattle.ln_forward.specs.Payload.{id_bytes};
 ghost use Rattle.ln_switch.specs.Uses.{takes_payments, minimum_of_peer, use_of, with_route, with_use};
 
@@ -11,7 +11,7 @@ use ln_channel::{Channel, ChannelMachine};
 use ln_forward::Policy;
 use ln_keys::{ChannelKeys, Role};
 use ln_log::ChannelId;
-use ln_msgs::Refusal;
+use ln_refusals::Refusal;
 
 /// What a book is told of a channel's end.
 #[derive(Clone, Copy, PartialEq, Eq)]

@@ -7,7 +7,8 @@ use ln_channel::{Command, Config, FitConfig, FitSpec, OpenSpec, Output, Points};
 use ln_keys::{ToyKeys, sha256_32};
 use ln_link::Link;
 use ln_log::{Add, Limits};
-use ln_msgs::{Message, Records, Refusal};
+use ln_msgs::{Message, Records};
+use ln_refusals::Refusal;
 use ln_store::RecordStore;
 use std::alloc::Global;
 

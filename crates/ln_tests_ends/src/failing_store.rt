@@ -2,10 +2,10 @@
 
 ghost use Rattle.std.specs.Prelude.{◌≡◌};
 ghost use Rattle.ln_msgs.specs.Pings.Counted.{HasRisen};
-ghost use Rattle.ln_msgs.specs.declared.refusals.refusal.Refusal.TheVariants.{Store, Memory};
+ghost use Rattle.ln_refusals.specs.declared.refusal.Refusal.TheVariants.{Store, Memory};
 
 use ln_bytes::Bytes;
-use ln_msgs::Refusal;
+use ln_refusals::Refusal;
 use ln_store::RecordStore;
 use std::alloc::Global;
 

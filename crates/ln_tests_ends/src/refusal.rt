@@ -1,12 +1,12 @@
 //! Refusals as numbers.
 
 ghost use Rattle.std.specs.Prelude.{◌≡◌, ◌≢◌, ◌+◌, Some, None};
-ghost use Rattle.ln_msgs.specs.declared.refusals.refusal.Refusal.TheVariants.{PeerLimit};
-ghost use Rattle.ln_msgs.specs.declared.refusals.peer_rule.PeerRule.{PeerRule};
-ghost use Rattle.ln_msgs.specs.Refusals.PeerRule.{rule_number};
-ghost use Rattle.ln_msgs.specs.Refusals.Refusal.{refusal_number};
+ghost use Rattle.ln_refusals.specs.declared.refusal.Refusal.TheVariants.{PeerLimit};
+ghost use Rattle.ln_refusals.specs.declared.peer_rule.PeerRule.{PeerRule};
+ghost use Rattle.ln_refusals.specs.PeerRule.{rule_number};
+ghost use Rattle.ln_refusals.specs.Refusal.{refusal_number};
 
-use ln_msgs::Refusal;
+use ln_refusals::Refusal;
 
 /// A call's refusal as a number: 0 where there is none, 4400 and the peer's number where the peer would refuse, else
 /// the refusal's own. Takes no memory.

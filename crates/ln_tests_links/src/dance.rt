@@ -4,7 +4,8 @@ use crate::testing::{bytes_of, message_of, point_of, side, signature_of};
 use ln_dance::{Dance, Later, Numbers, Peer, update_of};
 use ln_keys::{ChannelKeys, Role, ToyKeys};
 use ln_log::{Pair, Update};
-use ln_msgs::{CommitmentSigned, Refusal, RevokeAndAck};
+use ln_msgs::{CommitmentSigned, RevokeAndAck};
+use ln_refusals::Refusal;
 use ln_tests_ends::{FUNDEE, FUNDER, boxed, htlc};
 use std::alloc::Global;
 

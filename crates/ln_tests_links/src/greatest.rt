@@ -5,7 +5,8 @@ use ln_bytes::{Bytes, Record};
 use ln_channel::{Command, FitSpec, OpenSpec, Output};
 use ln_keys::ToyKeys;
 use ln_link::Link;
-use ln_msgs::{Message, Records, Refusal, encode, fits};
+use ln_msgs::{Message, Records, encode, fits};
+use ln_refusals::Refusal;
 use ln_store::MemoryStore;
 use ln_tests_ends::{
     FUNDER, Side, boxed, code_of, fundee_side, messages_of, open_spec, played, stored,

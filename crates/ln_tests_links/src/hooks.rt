@@ -3,7 +3,7 @@
 use crate::log::{What, updates};
 use What::{Add, Fail as Failed, Fee, Fulfil, Malformed};
 use ln_hooks::{Call, ChannelEvent, FailureCode, Hook, HookTable, How, Msat, Verdict, event_of};
-use ln_msgs::Refusal;
+use ln_refusals::Refusal;
 use std::alloc::{AllocError, Global};
 use std::sync::Arc;
 use std::sync::atomic::{AtomicU64, Ordering};

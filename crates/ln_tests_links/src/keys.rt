@@ -6,7 +6,7 @@ use ln_keys::{
     ChannelKeys, Htlc, Htlcs, Onion, OpenFault, Role, Signed, ToyKeys, ToyOnion, View,
     partner_accepts, partner_accepts_close, partner_secret_fits, sha256_32,
 };
-use ln_msgs::Refusal;
+use ln_refusals::Refusal;
 use ln_tests_ends::{FUNDEE, FUNDER};
 use std::alloc::{AllocError, Global};
 

@@ -6,7 +6,7 @@ use crate::log::{What, updates};
 use crate::testing::OPENING;
 use ln_dance::{Dance, Numbers};
 use ln_log::{Balances, BaseState, Counts, Coverage, Role, Side, UpdateLog};
-use ln_msgs::Refusal;
+use ln_refusals::Refusal;
 use ln_tests_ends::htlc;
 use std::alloc::Global;
 

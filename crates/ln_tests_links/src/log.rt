@@ -7,7 +7,7 @@ use ln_log::{
     add_refusal, find_add, last_feerate, live_count, outcome_of, plain_view, removal_of,
     update_refusal,
 };
-use ln_msgs::Refusal;
+use ln_refusals::Refusal;
 use ln_tests_ends::htlc;
 use std::alloc::Global;
 

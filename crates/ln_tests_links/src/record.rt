@@ -1,7 +1,7 @@
 //! Records of channel ends, against bytes that a separate program wrote.
 
 use ln_keys::sha256_32;
-use ln_msgs::Refusal;
+use ln_refusals::Refusal;
 use ln_store::{LinkRecord, decode_record, encode_record, one_record};
 use ln_tests_ends::code_of;
 use std::alloc::Global;

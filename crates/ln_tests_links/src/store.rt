@@ -1,6 +1,6 @@
 //! Stores of records.
 
-use ln_msgs::Refusal;
+use ln_refusals::Refusal;
 use ln_store::{MemoryStore, RecordStore};
 use ln_tests_ends::{FailingStore, code_of};
 use std::alloc::Global;

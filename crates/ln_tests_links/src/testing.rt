@@ -4,7 +4,8 @@ use hex::FromHex;
 use ln_dance::{Dance, Later, Numbers, Peer};
 use ln_keys::{ChannelKeys, Role, ToyKeys};
 use ln_log::{Limits, Opening, UpdateLog};
-use ln_msgs::{Incoming, Message, Refusal, decode};
+use ln_msgs::{Incoming, Message, decode};
+use ln_refusals::Refusal;
 use std::alloc::Global;
 
 /// The bytes of 64 hex digits; zeros for any other text.

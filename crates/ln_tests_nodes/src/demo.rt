@@ -2,7 +2,8 @@
 
 use crate::veil::Veil;
 use ln_demo::demo;
-use ln_msgs::{Counted, Refusal};
+use ln_msgs::Counted;
+use ln_refusals::Refusal;
 use std::alloc::Global;
 use std::io::{Read, Write};
 use std::net::{Net, OpenStream};

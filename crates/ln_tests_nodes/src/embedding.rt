@@ -6,7 +6,7 @@ use crate::pair::{ToyNode, fundee, funder, with};
 use ln_bytes::Bytes;
 use ln_channel::Command;
 use ln_keys::{ToyOnion, sha256_32};
-use ln_msgs::Refusal;
+use ln_refusals::Refusal;
 use std::alloc::Global;
 use std::net::{Net, TcpListener, TcpStream};
 use std::sync::Wait;

@@ -2,7 +2,7 @@
 
 use crate::client::Client;
 use crate::pair::{ToyNode, fundee, funder, stopped, wait_for_use};
-use ln_msgs::Refusal;
+use ln_refusals::Refusal;
 use ln_toy_channels::{KEYS, TXIDS};
 use std::alloc::Global;
 use std::io;

@@ -3,8 +3,9 @@
 use ln_channel::Command;
 use ln_hooks::{Hook, HookTable};
 use ln_keys::{ChannelKeys, ToyKeys, ToyOnion};
-use ln_msgs::{Refusal, channel_id};
+use ln_msgs::channel_id;
 use ln_node::Node;
+use ln_refusals::Refusal;
 use ln_store::MemoryStore;
 use ln_toy_channels::{KEYS, POLICY, SHORT_IDS, TXIDS, fit_config, fit_spec};
 use std::alloc::Global;

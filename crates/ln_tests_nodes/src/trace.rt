@@ -1,8 +1,8 @@
 //! What a node's traces and saves are logged as, line by line.
 
 use ln_bytes::{Bytes, Fault};
-use ln_msgs::Refusal;
 use ln_node::{Notice, Step, Trace};
+use ln_refusals::Refusal;
 use ln_store::{MemoryStore, RecordStore};
 use ln_trace::{LoggedStore, log_trace};
 use log::filter::{Builder, FilteredLog};

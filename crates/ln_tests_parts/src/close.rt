@@ -2,7 +2,7 @@
 
 use ln_close::{Closing, FeeAnswer, Fees, closes_by_agreement};
 use ln_keys::Role;
-use ln_msgs::Refusal;
+use ln_refusals::Refusal;
 
 /// What the funder of these tests takes, and its fundee.
 const CHEAP: Fees = Fees {

@@ -4,9 +4,9 @@
 use crate::pings::READY;
 use ln_bytes::{Bytes, Fault};
 use ln_msgs::{
-    Framer, Incoming, Init, Message, Pong, Records, Refusal, channel_id, check_init, decode,
-    encode, fits,
+    Framer, Incoming, Init, Message, Pong, Records, channel_id, check_init, decode, encode, fits,
 };
+use ln_refusals::Refusal;
 use std::alloc::{AllocError, Global};
 
 /// The name of each type and how many bytes its fields have where every byte string and list is empty.
@@ -320,7 +320,7 @@ fn features(rt: HostRuntime) {
 
 /// The type of the message by which the peer is told, and 0 for none.
 fn reply_type(alloc: Global, refusal: Refusal) -> Result<u16, Refusal> {
-    let reply = refusal.reply(alloc, &[7; 32]);
+    let reply = Message::reply_to(alloc, refusal, &[7; 32]);
     let typ = match &reply {
         Ok(Some(message)) => Ok(message.typ()),
         Ok(None) => Ok(0),

@@ -2,7 +2,8 @@
 
 use crate::narrow::Narrow;
 use ln_bytes::Fault;
-use ln_msgs::{Counted, Field, Incoming, Item, Message, PeerRule, Refusal, answer_pings, decode};
+use ln_msgs::{Counted, Field, Incoming, Item, Message, answer_pings, decode};
+use ln_refusals::{PeerRule, Refusal};
 use std::alloc::{AllocError, Global};
 
 // A type, how many bytes its fields of fixed size take, the bytes of those behind them, and the names of all.

@@ -2,7 +2,7 @@
 
 use ln_hooks::{Call, ChannelEvent, FailureCode, Hook, Verdict};
 use ln_keys::ToyKeys;
-use ln_msgs::Refusal;
+use ln_refusals::Refusal;
 use ln_script::read_script;
 use ln_world::{End, Line, Node, Step, World};
 use std::alloc::{AllocError, Global};

@@ -1,7 +1,7 @@
 //! The record that an end's store has: none before its channel is open, and from then on one that can be read.
 
 use ln_keys::ToyKeys;
-use ln_msgs::Refusal;
+use ln_refusals::Refusal;
 use ln_script::read_script;
 use ln_store::decode_record;
 use ln_world::Step;

@@ -5,7 +5,7 @@
 use crate::database::connected_anew;
 use crate::players::{Player, are_closed, both, closes, is_paid, meet, pays};
 use ln_keys::Role;
-use ln_msgs::Refusal;
+use ln_refusals::Refusal;
 use ln_sqlite::SqliteStore;
 use ln_store::{MemoryStore, RecordStore};
 use ln_tests_ends::{

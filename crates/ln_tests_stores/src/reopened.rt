@@ -5,7 +5,7 @@ use ln_channel::Command;
 use ln_files::FileRecords;
 use ln_keys::ToyKeys;
 use ln_link::Link;
-use ln_msgs::Refusal;
+use ln_refusals::Refusal;
 use ln_store::RecordStore;
 use ln_tests_ends::{FUNDEE, FUNDER, Side, boxed, fundee_side, funder_side, played};
 use std::alloc::Global;

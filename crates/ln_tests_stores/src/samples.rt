@@ -2,7 +2,7 @@
 
 ghost use Rattle.std.specs.Prelude.{◌≡◌, IfOk, replicate};
 
-use ln_msgs::Refusal;
+use ln_refusals::Refusal;
 use ln_store::RecordStore;
 use std::alloc::Global;
 

@@ -7,7 +7,7 @@ ghost use Rattle.sqlite_disk.specs.Fuse.{inner_of, IsFresh};
 
 use crate::database::{Disks, Image, NEVER, Stop, connected};
 use crate::samples::{Sample, has_all, save_all};
-use ln_msgs::Refusal;
+use ln_refusals::Refusal;
 use ln_sqlite::SqliteStore;
 use ln_store::RecordStore;
 use sqlite::{Alter, Connection};

@@ -1,7 +1,7 @@
 //! Databases that a store isn't made over: nothing of them is changed.
 
 use crate::samples::{Sample, has_all};
-use ln_msgs::Refusal;
+use ln_refusals::Refusal;
 use ln_sqlite::SqliteStore;
 use sqlite::types::ValueRef;
 use sqlite::{Alter, Connection, Error};

@@ -5,7 +5,8 @@ use ln_channel::{Config, FitConfig, FitSpec, OpenSpec, Points};
 use ln_forward::Policy;
 use ln_keys::ToyKeys;
 use ln_log::Limits;
-use ln_msgs::{Records, Refusal};
+use ln_msgs::Records;
+use ln_refusals::Refusal;
 use std::alloc::Global;
 
 /// What a node asks for a payment that it forwards.

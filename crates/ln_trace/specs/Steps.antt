@@ -6,7 +6,7 @@ use Rattle.log.specs.Kv.{Pair}
 use Rattle.log.specs.declared.level.Level.{Level}
 use Rattle.log.specs.declared.level.Level.TheVariants as level
 use Rattle.ln_bytes.specs.Fault.{fault_number}
-use Rattle.ln_msgs.specs.Refusals.Refusal.{refusal_number}
+use Rattle.ln_refusals.specs.Refusal.{refusal_number}
 use Rattle.ln_node_loops.specs.declared.notice.Notice.{Notice}
 use Rattle.ln_node_loops.specs.declared.notice.Notice.TheVariants.{Ended, NoInit, Refused, OrderRefused, Halted}
 use Rattle.ln_node_loops.specs.declared.notice.Notice.TheVariants.{Loaded, Held}

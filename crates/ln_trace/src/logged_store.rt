@@ -4,7 +4,7 @@ ghost use Rattle.std.specs.Prelude.{◌≡◌, None, false};
 
 use crate::saves::{Save, StorePairs, save_level, save_words};
 use ln_bytes::Bytes;
-use ln_msgs::Refusal;
+use ln_refusals::Refusal;
 use ln_store::RecordStore;
 use log::{Level, Log, Metadata, Record, log_enabled};
 use std::alloc::Global;

@@ -4,7 +4,7 @@ ghost use Rattle.std.specs.Prelude.{◌≡◌, option_map};
 ghost use Rattle.ln_trace.specs.Saves.{error_text, save_level, save_words, save_error};
 
 use crate::hex_id::HexId;
-use ln_msgs::Refusal;
+use ln_refusals::Refusal;
 use log::Level;
 use log::kv::{Error, Source, ToValue, VisitSource, display};
 

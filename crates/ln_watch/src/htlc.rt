@@ -1,12 +1,12 @@
 //! The HTLCs of a channel, each with how far it is.
 
 ghost use Rattle.std.specs.Prelude.{◌≡◌, ◌++◌, OnOk, IfErr};
-ghost use Rattle.ln_msgs.specs.declared.refusals.refusal.Refusal.TheVariants as refusal;
+ghost use Rattle.ln_refusals.specs.declared.refusal.Refusal.TheVariants as refusal;
 ghost use Rattle.ln_watch.specs.Htlc.{stage_by, stage_of, live_htlc, is_of, live_htlcs};
 
 use ln_keys::{Htlc, Role};
 use ln_log::{Outcome, Update, find_add, outcome_of};
-use ln_msgs::Refusal;
+use ln_refusals::Refusal;
 use std::marker::Model;
 
 /// How far an HTLC is (BOLT 2, "Normal Operation").

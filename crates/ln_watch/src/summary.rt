@@ -1,7 +1,7 @@
 //! What is told of a channel.
 
 ghost use Rattle.std.specs.Prelude.{◌≡◌, [], IfOk, IfErr};
-ghost use Rattle.ln_msgs.specs.declared.refusals.refusal.Refusal.TheVariants as refusal;
+ghost use Rattle.ln_refusals.specs.declared.refusal.Refusal.TheVariants as refusal;
 ghost use Rattle.ln_channel.specs.Summary.{balance_of};
 ghost use Rattle.ln_watch.specs.Summary.{closed_or, failed_or, state_of_end, state_by, in_msat, reserve_of, unsigned};
 ghost use Rattle.ln_watch.specs.Summary.{own_unheld, peer_unheld, htlcs_of, opening_summary, end_summary, summary_of};
@@ -12,7 +12,7 @@ use ln_channel::{Channel, ChannelMachine, ConnectionState, Terms};
 use ln_dance::{Dance, Numbers};
 use ln_keys::{ChannelKeys, Htlc, Role, View};
 use ln_log::{ChannelId, Counts, Pair, Side, Update};
-use ln_msgs::Refusal;
+use ln_refusals::Refusal;
 use std::alloc::{AllocError, Global};
 
 /// How far a channel is, for one of its ends. The first that fits is told, from below.

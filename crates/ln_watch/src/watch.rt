@@ -1,13 +1,13 @@
 //! Where a channel's summary is kept for who reads it.
 
 ghost use Rattle.std.specs.Prelude.{◌≡◌, IfOk, IfErr};
-ghost use Rattle.ln_msgs.specs.declared.refusals.refusal.Refusal.TheVariants as refusal;
+ghost use Rattle.ln_refusals.specs.declared.refusal.Refusal.TheVariants as refusal;
 ghost use Rattle.ln_watch.specs.Summary.{IsSummary, IsKept, IsKept-prop};
 
 use crate::summary::{ChannelSummary, summary_of};
 use ln_channel::ChannelMachine;
 use ln_keys::ChannelKeys;
-use ln_msgs::Refusal;
+use ln_refusals::Refusal;
 use std::alloc::Global;
 use std::sync::{Mutex, Wait};
 

@@ -2,8 +2,8 @@
 -- hold as irrevocably committed.
 use Rattle.std.specs.Prelude.{ℕ, zero, suc, ◌+◌, ◌-◌, ◌*◌, List, [], ◌∷◌, length, Option, Some, None}
 use Rattle.std.specs.Prelude.{Result, Ok, Err}
-use Rattle.ln_msgs.specs.declared.refusals.refusal.Refusal.{Refusal}
-use Rattle.ln_msgs.specs.declared.refusals.refusal.Refusal.TheVariants as refusal
+use Rattle.ln_refusals.specs.declared.refusal.Refusal.{Refusal}
+use Rattle.ln_refusals.specs.declared.refusal.Refusal.TheVariants as refusal
 use Rattle.ln_log.specs.declared.mark.Mark.{Mark}
 use Rattle.ln_log.specs.declared.mark.Mark.TheVariants as mark
 use Rattle.ln_hooks.specs.declared.event.ChannelEvent.{ChannelEvent}

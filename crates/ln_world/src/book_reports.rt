@@ -1,7 +1,7 @@
 //! What a book is told of a channel's end.
 
 ghost use Rattle.std.specs.Prelude.{◌≡◌, ◌++◌, ◌-◌, OnOk, IfOk, IfErr, option_copied};
-ghost use Rattle.ln_msgs.specs.declared.refusals.refusal.Refusal.TheVariants as refusal;
+ghost use Rattle.ln_refusals.specs.declared.refusal.Refusal.TheVariants as refusal;
 ghost use Rattle.ln_world_dispatch.specs.World.{undecided};
 ghost use Rattle.ln_world.specs.BookReports.{done_by, answer_by, byte_at, choice_of, noted_of, noted_line};
 ghost use Rattle.ln_world.specs.BookReports.{decided_line};
@@ -11,7 +11,7 @@ use crate::follow_up::DecisionNote;
 use ln_book::Book;
 use ln_channel::{Channel as ChannelEnd, Command};
 use ln_log::{ChannelId, Mark};
-use ln_msgs::Refusal;
+use ln_refusals::Refusal;
 use ln_switch::answer_to;
 use ln_world_dispatch::{Choice, End, Line, undecided};
 use std::alloc::Global;

@@ -2,7 +2,7 @@
 //! them.
 
 ghost use Rattle.std.specs.Prelude.{◌≡◌, ◌++◌, OnOk, IfErr, option_copied};
-ghost use Rattle.ln_msgs.specs.declared.refusals.refusal.Refusal.TheVariants as refusal;
+ghost use Rattle.ln_refusals.specs.declared.refusal.Refusal.TheVariants as refusal;
 ghost use Rattle.ln_world.specs.Node.{changed, with_book};
 ghost use Rattle.ln_world.specs.World.{follows, answered, reported, unanswered, saved_dropped, dropped, disconnected};
 ghost use Rattle.ln_world.specs.World.{restarted, met, concluded, decided_lines, tells, link_at};
@@ -16,7 +16,7 @@ use crate::node::{NodeBook, place_for};
 use ln_book::Book;
 use ln_channel::{Channel as ChannelEnd, ChannelMachine};
 use ln_keys::{ChannelKeys, Role};
-use ln_msgs::Refusal;
+use ln_refusals::Refusal;
 use ln_world_channels::{WorldChannel, channel_id_of};
 use ln_world_dispatch::{End, Line, Node, Nodes};
 use std::alloc::Global;

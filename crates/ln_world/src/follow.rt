@@ -1,7 +1,7 @@
 //! A node's book follows the node's ends.
 
 ghost use Rattle.std.specs.Prelude.{◌≡◌, OnOk, IfOk, IfErr, option_copied};
-ghost use Rattle.ln_msgs.specs.declared.refusals.refusal.Refusal.TheVariants as refusal;
+ghost use Rattle.ln_refusals.specs.declared.refusal.Refusal.TheVariants as refusal;
 ghost use Rattle.ln_channel.specs.Record.{saved_end};
 ghost use Rattle.ln_world_channels.specs.WorldChannel.{side_of};
 ghost use Rattle.ln_world_channels.specs.World.{channel};
@@ -14,7 +14,7 @@ use ln_book_recovery::ChannelSnapshot;
 use ln_channel::ChannelMachine;
 use ln_forward::Policy;
 use ln_keys::{ChannelKeys, Role};
-use ln_msgs::Refusal;
+use ln_refusals::Refusal;
 use ln_switch::{read_end, use_of};
 use ln_world_channels::{World as Channels, WorldChannel};
 use ln_world_dispatch::Node;

@@ -1,13 +1,13 @@
 //! Nodes with their books of forwarded payments.
 
 ghost use Rattle.std.specs.Prelude.{◌≡◌, position, OnOk, IfOk, IfErr, Some};
-ghost use Rattle.ln_msgs.specs.declared.refusals.refusal.Refusal.TheVariants as refusal;
+ghost use Rattle.ln_refusals.specs.declared.refusal.Refusal.TheVariants as refusal;
 ghost use Rattle.ln_world_channels.specs.WorldChannel.{is_node};
 ghost use Rattle.ln_world.specs.Node.{new_node, new_policy, changed};
 
 use ln_book::Book;
 use ln_forward::Policy;
-use ln_msgs::Refusal;
+use ln_refusals::Refusal;
 use ln_world_dispatch::Node;
 use std::alloc::Global;
 

@@ -1,7 +1,7 @@
 //! What the books of nodes do before a step: what is set is entered, and commands are handed out.
 
 ghost use Rattle.std.specs.Prelude.{◌≡◌, ◌≤◌, OnOk, IfOk, IfErr, Some, None};
-ghost use Rattle.ln_msgs.specs.declared.refusals.refusal.Refusal.TheVariants as refusal;
+ghost use Rattle.ln_refusals.specs.declared.refusal.Refusal.TheVariants as refusal;
 ghost use Rattle.ln_book_tables.specs.declared.entry.Entry.TheVariants as entry;
 ghost use Rattle.ln_world.specs.Node.{changed, with_policy};
 ghost use Rattle.ln_switch.specs.Answers.{next_id};
@@ -26,7 +26,7 @@ use ln_forward::Policy;
 use ln_hooks::{ChannelEvent, Verdict};
 use ln_keys::{ChannelKeys, ToyOnion};
 use ln_log::Mark;
-use ln_msgs::Refusal;
+use ln_refusals::Refusal;
 use ln_switch::{command_subject, next_id};
 use ln_world_channels::{Act as ChannelAct, channel_id_of};
 use ln_world_dispatch::{End, Node, Nodes, Step as DispatchStep};

@@ -1,7 +1,7 @@
 //! A world of nodes.
 
 ghost use Rattle.std.specs.Prelude.{◌≡◌, length, map, IfOk, IfErr};
-ghost use Rattle.ln_msgs.specs.declared.refusals.refusal.Refusal.TheVariants as refusal;
+ghost use Rattle.ln_refusals.specs.declared.refusal.Refusal.TheVariants as refusal;
 ghost use Rattle.ln_world.specs.World.{MayFailBy};
 ghost use Rattle.ln_world.specs.Hooked.{Moves};
 
@@ -10,7 +10,7 @@ use crate::node::NodeBook;
 use crate::prepare::prepare;
 use crate::step::Step;
 use ln_keys::ChannelKeys;
-use ln_msgs::Refusal;
+use ln_refusals::Refusal;
 use ln_world_dispatch::{EndLine, Line, Serve, Step as DispatchStep, World as Dispatchers};
 use std::alloc::Global;
 

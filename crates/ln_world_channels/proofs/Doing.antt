@@ -1,8 +1,8 @@
 -- A link does what a command asks for exactly where its end may do it.
 use Rattle.std.proofs.Common.{◌≡◌, ◌↔◌, ℕ, List, [], sym, ap, ◌∙◌, subst, refl, Bool, true, false, cond}
 use Rattle.std.proofs.Common.{Result, Ok, Err}
-use Rattle.ln_msgs.specs.declared.refusals.refusal.Refusal.{Refusal}
-use Rattle.ln_msgs.specs.declared.refusals.refusal.Refusal.TheVariants as refusal
+use Rattle.ln_refusals.specs.declared.refusal.Refusal.{Refusal}
+use Rattle.ln_refusals.specs.declared.refusal.Refusal.TheVariants as refusal
 use Rattle.ln_keys.specs.declared.role.Role.{Role}
 use Rattle.ln_keys.specs.declared.role.Role.TheVariants.{Funder, Fundee}
 use Rattle.ln_keys.specs.Signer.{Signer}

@@ -1,7 +1,7 @@
 -- By what a step fails that fails by an end without a record.
 use Rattle.std.proofs.Common.{◌≡◌, ℕ, List, ◌∷◌, get_or, position, sym, subst, inl, inr, Some, ◌==◌}
 use Rattle.ln_msgs.specs.declared.messages.message.Message.{Message}
-use Rattle.ln_msgs.specs.declared.refusals.refusal.Refusal.{Refusal}
+use Rattle.ln_refusals.specs.declared.refusal.Refusal.{Refusal}
 use Rattle.ln_keys.specs.declared.role.Role.{Role}
 use Rattle.ln_keys.specs.declared.role.Role.TheVariants.{Funder, Fundee}
 use Rattle.ln_keys.specs.Signer.{Signer}

@@ -2,8 +2,8 @@
 use Rattle.std.proofs.Common.{◌≡◌, ℕ, List, [], ◌∷◌, ◌++◌, refl, sym, ◌∙◌, subst, Bool, true, false, cond, ◌&&◌}
 use Rattle.std.proofs.Common.{Option, Some, None, Result, Ok, Err, not, is_none, ◌==◌}
 use Rattle.ln_msgs.specs.declared.messages.message.Message.{Message}
-use Rattle.ln_msgs.specs.declared.refusals.refusal.Refusal.{Refusal}
-use Rattle.ln_msgs.specs.declared.refusals.refusal.Refusal.TheVariants as refusal
+use Rattle.ln_refusals.specs.declared.refusal.Refusal.{Refusal}
+use Rattle.ln_refusals.specs.declared.refusal.Refusal.TheVariants as refusal
 use Rattle.ln_keys.specs.declared.keys.ChannelKeys.{Ghosts}
 use Rattle.ln_keys.specs.declared.role.Role.{Role}
 use Rattle.ln_keys.specs.declared.role.Role.TheVariants.{Funder, Fundee}

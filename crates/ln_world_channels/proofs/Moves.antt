@@ -4,8 +4,8 @@ use Rattle.std.proofs.Common.{Option, Some, None, Result, Ok, Err, inl, inr, app
 use Rattle.ln_bytes.proofs.Same.{same_if_equal}
 use Rattle.ln_msgs.specs.declared.messages.message.Message.{Message}
 use Rattle.ln_msgs.specs.declared.messages.message.Message.TheVariants as message
-use Rattle.ln_msgs.specs.declared.refusals.refusal.Refusal.{Refusal}
-use Rattle.ln_msgs.specs.declared.refusals.refusal.Refusal.TheVariants as refusal
+use Rattle.ln_refusals.specs.declared.refusal.Refusal.{Refusal}
+use Rattle.ln_refusals.specs.declared.refusal.Refusal.TheVariants as refusal
 use Rattle.ln_keys.specs.declared.role.Role.{Role}
 use Rattle.ln_keys.specs.Signer.{Signer}
 use Rattle.ln_log.specs.Machine as machine

@@ -1,9 +1,9 @@
 -- A command that is refused sends nothing.
 use Rattle.std.proofs.Common.{◌≡◌, ℕ, List, [], refl, Bool, true, false, cond, not, ◌||◌, Option, Some, None, is_none}
 use Rattle.std.proofs.Common.{Result, Ok, Err, option_map, take, nat_lt, length}
-use Rattle.ln_msgs.specs.declared.refusals.refusal.Refusal.{Refusal}
-use Rattle.ln_msgs.specs.declared.refusals.refusal.Refusal.TheVariants as refusal
-use Rattle.ln_msgs.specs.declared.refusals.peer_rule.PeerRule.TheVariants as rule
+use Rattle.ln_refusals.specs.declared.refusal.Refusal.{Refusal}
+use Rattle.ln_refusals.specs.declared.refusal.Refusal.TheVariants as refusal
+use Rattle.ln_refusals.specs.declared.peer_rule.PeerRule.TheVariants as rule
 use Rattle.ln_keys.specs.Signer.{Signer}
 use Rattle.ln_log.specs.declared.update.Update.{Update}
 use Rattle.ln_log.specs.declared.update.Update.TheVariants as update

@@ -1,7 +1,7 @@
 //! What a link answers to a message, a command or a connection.
 
 use ln_channel::Output;
-use ln_msgs::Refusal;
+use ln_refusals::Refusal;
 
 /// What a link answers, but for want of memory.
 #[derive(Drop)]

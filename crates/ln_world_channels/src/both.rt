@@ -1,7 +1,7 @@
 //! The two ends of one channel, each a link of its own, and what is in flight to each (BOLT 2).
 
 ghost use Rattle.std.specs.Prelude.{◌≡◌, ◌++◌, option_copied, IfOk, IfErr, OnOk};
-ghost use Rattle.ln_msgs.specs.declared.refusals.refusal.Refusal.TheVariants as refusal;
+ghost use Rattle.ln_refusals.specs.declared.refusal.Refusal.TheVariants as refusal;
 ghost use Rattle.ln_world_channels.specs.declared.step.Act.TheVariants as act;
 ghost use Rattle.ln_world_channels.specs.Settings.{channel_id_of};
 ghost use Rattle.ln_channel_laws.specs.Ends.{messages_in};
@@ -23,7 +23,8 @@ use crate::step::{Act, End};
 use ln_bytes::Bytes;
 use ln_channel::{ChannelMachine, Command, Output};
 use ln_keys::ChannelKeys;
-use ln_msgs::{Message, Refusal};
+use ln_msgs::Message;
+use ln_refusals::Refusal;
 use std::alloc::Global;
 use std::collections::VecDeque;
 use std::marker::Model;

@@ -1,7 +1,7 @@
 //! A channel between two nodes.
 
 ghost use Rattle.std.specs.Prelude.{◌≡◌, ◌++◌, IfOk, IfErr, OnOk};
-ghost use Rattle.ln_msgs.specs.declared.refusals.refusal.Refusal.TheVariants as refusal;
+ghost use Rattle.ln_refusals.specs.declared.refusal.Refusal.TheVariants as refusal;
 ghost use Rattle.ln_world_channels.specs.Settings.{CanBring};
 ghost use Rattle.ln_world_channels.specs.WorldChannel.{opened_by, begun_by};
 ghost use Rattle.ln_world_channels.specs.Failing.{ByRecord, OpeningLacks};
@@ -13,7 +13,7 @@ use crate::settings::{Settings, fit_config, fit_spec};
 use crate::step::{Act, End, Node, Open};
 use ln_bytes::Bytes;
 use ln_keys::{ChannelKeys, Role};
-use ln_msgs::Refusal;
+use ln_refusals::Refusal;
 use std::alloc::Global;
 use std::marker::Model;
 

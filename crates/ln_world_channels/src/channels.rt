@@ -8,7 +8,7 @@ use crate::settings::Settings;
 use crate::step::{Act, End, Node, Open};
 use ln_bytes::Bytes;
 use ln_keys::{ChannelKeys, Role};
-use ln_msgs::Refusal;
+use ln_refusals::Refusal;
 use std::alloc::Global;
 use std::marker::Model;
 

@@ -4,7 +4,7 @@
 //! whatever their keys are that are partners.
 
 ghost use Rattle.std.specs.Prelude.{ℕ, List};
-ghost use Rattle.ln_msgs.specs.declared.refusals.refusal.Refusal.TheVariants as refusal;
+ghost use Rattle.ln_refusals.specs.declared.refusal.Refusal.TheVariants as refusal;
 ghost use Rattle.ln_world_channels.specs.declared.step.Step.{Step};
 ghost use Rattle.ln_world_channels.specs.World.{empty, run, channel};
 ghost use Rattle.ln_world_channels.specs.Failing.{SomeMayFail};

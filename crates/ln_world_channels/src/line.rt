@@ -3,7 +3,7 @@
 use crate::step::{End, Node};
 use ln_channel::Summary;
 use ln_hooks::Verdict;
-use ln_msgs::Refusal;
+use ln_refusals::Refusal;
 
 /// A message, by what a report tells of it.
 #[derive(Clone, Copy, PartialEq, Eq)]

@@ -1,10 +1,10 @@
 //! What is told of what a link hands out, and of what it refuses.
 
 ghost use Rattle.std.specs.Prelude.{◌≡◌, ◌++◌, ◌∷◌, [], IfOk, IfErr, OnOk};
-ghost use Rattle.ln_msgs.specs.declared.refusals.refusal.Refusal.TheVariants as refusal;
+ghost use Rattle.ln_refusals.specs.declared.refusal.Refusal.TheVariants as refusal;
 ghost use Rattle.ln_world_channels.specs.Lines.{word_of, ending_of, event_line, sends_line, line_of, lines_of};
 ghost use Rattle.ln_world_channels.specs.Lines.{reply_of, one_or_none, reply_lines};
-ghost use Rattle.ln_msgs.specs.Refusals.Refusal.{refusal_number};
+ghost use Rattle.ln_refusals.specs.Refusal.{refusal_number};
 ghost use Rattle.ln_world_channels.specs.declared.line.Line.TheVariants as line;
 
 use crate::line::{Ending, Line, Word};
@@ -12,7 +12,8 @@ use crate::step::End;
 use ln_channel::Output;
 use ln_dance::Numbers;
 use ln_hooks::{ChannelEvent, How};
-use ln_msgs::{Message, Refusal};
+use ln_msgs::Message;
+use ln_refusals::Refusal;
 use std::alloc::Global;
 
 // An error and a warning tell of none.
@@ -163,5 +164,5 @@ pub(crate) fn reply_of(
     ensures reply { IfOk result (λ m. m ≡ reply_of id.now (refusal_number why)) }
     ensures fails_for_memory_alone { IfErr result (λ e. e ≡ refusal.Memory) }
 {
-    why.reply(alloc, id)
+    Message::reply_to(alloc, why, id)
 }

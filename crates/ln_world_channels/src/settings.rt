@@ -1,7 +1,7 @@
 //! What nodes open channels with (BOLT 2, "Channel Establishment v1").
 
 ghost use Rattle.std.specs.Prelude.{◌≡◌, position, OnOk, IfOk, IfErr, IsTrue};
-ghost use Rattle.ln_msgs.specs.declared.refusals.refusal.Refusal.TheVariants as refusal;
+ghost use Rattle.ln_refusals.specs.declared.refusal.Refusal.TheVariants as refusal;
 ghost use Rattle.ln_world_channels.specs.Settings.{defaults, config_with, config_of, txid_of, channel_id_of, spec_of};
 ghost use Rattle.ln_world_channels.specs.Settings.{may_bring, CanBring};
 ghost use Rattle.ln_world_channels.specs.WorldChannel.{is_node};
@@ -13,7 +13,8 @@ use ln_bytes::Bytes;
 use ln_channel::{Config, FitConfig, FitSpec, OpenSpec, Points};
 use ln_close::Fees;
 use ln_log::{Limits, Opening};
-use ln_msgs::{Records, Refusal, channel_id};
+use ln_msgs::{Records, channel_id};
+use ln_refusals::Refusal;
 use std::alloc::Global;
 
 /// What a node opens channels with.

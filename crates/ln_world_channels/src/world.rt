@@ -11,7 +11,7 @@ use ln_bytes::Bytes;
 use ln_close::Fees;
 use ln_keys::ChannelKeys;
 use ln_log::Limits;
-use ln_msgs::Refusal;
+use ln_refusals::Refusal;
 use std::alloc::Global;
 use std::marker::Model;
 

@@ -5,7 +5,7 @@ use crate::served::Served;
 use ln_history::Past;
 use ln_hooks::{ChannelEvent, Verdict};
 use ln_keys::Role;
-use ln_msgs::Refusal;
+use ln_refusals::Refusal;
 use ln_world_channels::{End, Node};
 use std::alloc::Global;
 use std::collections::VecDeque;

@@ -1,7 +1,7 @@
 //! What a dispatcher reads of its channel end.
 
 ghost use Rattle.std.specs.Prelude.{◌≡◌, IfOk, IfErr, option_copied};
-ghost use Rattle.ln_msgs.specs.declared.refusals.refusal.Refusal.TheVariants as refusal;
+ghost use Rattle.ln_refusals.specs.declared.refusal.Refusal.TheVariants as refusal;
 ghost use Rattle.ln_log.specs.Log.{first_of, updates_of, update_at};
 ghost use Rattle.ln_channel.specs.Pending.{event_in, named_by};
 ghost use Rattle.ln_world_channels.specs.World.{channel};
@@ -11,7 +11,7 @@ use ln_channel::Channel as ChannelEnd;
 use ln_hooks::{ChannelEvent, event_of};
 use ln_keys::{ChannelKeys, Role};
 use ln_log::{EventRef, Side, UpdateLog};
-use ln_msgs::Refusal;
+use ln_refusals::Refusal;
 use ln_world_channels::World as Channels;
 use std::alloc::Global;
 

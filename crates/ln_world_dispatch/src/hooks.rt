@@ -1,13 +1,13 @@
 //! The hooks that were handed in, and the tables that they get slots in.
 
 ghost use Rattle.std.specs.Prelude.{◌≡◌, map, OnOk, IfErr};
-ghost use Rattle.ln_msgs.specs.declared.refusals.refusal.Refusal.TheVariants as refusal;
+ghost use Rattle.ln_refusals.specs.declared.refusal.Refusal.TheVariants as refusal;
 ghost use Rattle.ln_world_channels.specs.WorldChannel.{is_node};
 ghost use Rattle.ln_world_dispatch.specs.Slots.{IsAside};
 
 use crate::dispatcher::Dispatcher;
 use ln_hooks::{ChannelEvent, Serve, Verdict, call_each};
-use ln_msgs::Refusal;
+use ln_refusals::Refusal;
 use ln_world_channels::Node;
 use std::alloc::Global;
 use std::mem;
@@ -23,7 +23,7 @@ pub struct Tables<H: Serve> {
 
 impl<H: Serve> Tables<H> {
     ghost use Rattle.std.specs.Prelude.{◌≡◌, ◌++◌, ◌∷◌, [], map, OnOk, IfErr};
-    ghost use Rattle.ln_msgs.specs.declared.refusals.refusal.Refusal.TheVariants as refusal;
+    ghost use Rattle.ln_refusals.specs.declared.refusal.Refusal.TheVariants as refusal;
     ghost use Rattle.ln_hooks.specs.Table.{Says};
     ghost use Rattle.ln_hooks.specs.Chain.{shown_to};
 
@@ -102,7 +102,7 @@ pub struct Hooks<H: Serve> {
 impl<H: Serve> Hooks<H> {
     ghost use Rattle.std.specs.Prelude.{◌≡◌, ◌<◌, ◌++◌, ◌∷◌, [], length, map, OnOk, IfOk, IfErr, Some, None};
     ghost use Rattle.std.specs.Prelude.{get_or, set};
-    ghost use Rattle.ln_msgs.specs.declared.refusals.refusal.Refusal.TheVariants as refusal;
+    ghost use Rattle.ln_refusals.specs.declared.refusal.Refusal.TheVariants as refusal;
     ghost use Rattle.ln_world_channels.specs.WorldChannel.{is_node};
     ghost use Rattle.ln_world_dispatch.specs.Slots.{CallsAt, SlotsAt, Joins, AreAside};
     ghost use Rattle.ln_world_dispatch.specs.Kept.{dispatchers_of};

@@ -3,7 +3,7 @@
 ghost use Rattle.std.specs.Prelude.{◌≡◌, ◌++◌, ◌==◌, ◌∷◌, [], position, is_some, option_copied, IfOk, IfErr, OnOk};
 ghost use Rattle.std.specs.Prelude.{ℕ, Some, option_map, IfSome};
 ghost use Rattle.std.specs.List.{list_any};
-ghost use Rattle.ln_msgs.specs.declared.refusals.refusal.Refusal.TheVariants as refusal;
+ghost use Rattle.ln_refusals.specs.declared.refusal.Refusal.TheVariants as refusal;
 ghost use Rattle.ln_keys.specs.declared.role.Role.{Role};
 ghost use Rattle.ln_world_channels.specs.declared.step.End.{End};
 ghost use Rattle.ln_world_channels.specs.declared.line.Line.TheVariants as line;
@@ -18,7 +18,7 @@ use crate::step::Step;
 use ln_channel::Command;
 use ln_hooks::{ChannelEvent, Verdict};
 use ln_keys::{ChannelKeys, Role};
-use ln_msgs::Refusal;
+use ln_refusals::Refusal;
 use ln_world_channels::{
     Act, End, EndLine, Line, Node, Open, Step as ChannelStep, World as Channels,
 };

@@ -1,7 +1,7 @@
 //! Nodes whose dispatchers call hooks.
 
 ghost use Rattle.std.specs.Prelude.{◌≡◌, ◌++◌, ◌∷◌, [], OnOk, IfErr};
-ghost use Rattle.ln_msgs.specs.declared.refusals.refusal.Refusal.TheVariants as refusal;
+ghost use Rattle.ln_refusals.specs.declared.refusal.Refusal.TheVariants as refusal;
 ghost use Rattle.ln_world_channels.specs.declared.line.Line.TheVariants as line;
 
 use crate::hooks::Hooks;
@@ -9,7 +9,7 @@ use crate::nodes::Nodes;
 use crate::step::Step;
 use ln_hooks::{ChannelEvent, Serve};
 use ln_keys::ChannelKeys;
-use ln_msgs::Refusal;
+use ln_refusals::Refusal;
 use ln_world_channels::{Act, End, EndLine, Line, Node, Open};
 use std::alloc::Global;
 

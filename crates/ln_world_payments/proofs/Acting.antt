@@ -4,7 +4,7 @@ use Rattle.std.proofs.Common.{Bool, true, false, cond, ◌==◌, Option, Some, N
 use Rattle.std.specs.Prelude.{option_map}
 use Rattle.std.proofs.lemmas.Bool.{eqb-true}
 use Rattle.ln_keys.specs.declared.keys.ChannelKeys.{Ghosts}
-use Rattle.ln_msgs.specs.declared.refusals.refusal.Refusal.{Refusal}
+use Rattle.ln_refusals.specs.declared.refusal.Refusal.{Refusal}
 use Rattle.ln_hooks.specs.declared.verdict.Verdict.{Verdict}
 use Rattle.ln_log.specs.declared.update.Update.{Update}
 use Rattle.ln_log.specs.declared.update.Update.TheVariants as update

@@ -2,10 +2,10 @@
 use Rattle.std.proofs.Common.{◌≡◌, ◌⊎◌, inl, inr, ℕ, refl, Bool, true, false, cond, not, ◌&&◌, ◌||◌, nat_lt}
 use Rattle.std.proofs.Common.{is_none, length, take, Option, Some, None, Result, Ok, Err}
 use Rattle.std.specs.Prelude.{option_map}
-use Rattle.ln_msgs.specs.declared.refusals.refusal.Refusal.{Refusal}
-use Rattle.ln_msgs.specs.declared.refusals.refusal.Refusal.TheVariants as refusal
-use Rattle.ln_msgs.specs.declared.refusals.peer_rule.PeerRule.TheVariants as rule
-use Rattle.ln_msgs.specs.Refusals.Refusal.{refusal_number}
+use Rattle.ln_refusals.specs.declared.refusal.Refusal.{Refusal}
+use Rattle.ln_refusals.specs.declared.refusal.Refusal.TheVariants as refusal
+use Rattle.ln_refusals.specs.declared.peer_rule.PeerRule.TheVariants as rule
+use Rattle.ln_refusals.specs.Refusal.{refusal_number}
 use Rattle.ln_keys.specs.Signer.{Signer}
 use Rattle.ln_log.specs.declared.mark.Mark.{Mark}
 use Rattle.ln_log.specs.declared.mark.Mark.TheVariants as mark

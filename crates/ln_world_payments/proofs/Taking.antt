@@ -3,9 +3,9 @@ use Rattle.std.proofs.Common.{◌≡◌, inl, inr, ℕ, List, [], ◌∷◌, ref
 use Rattle.std.proofs.Common.{Bool, true, false, cond, not, ◌==◌, nat_lt, Option, Some, None, Result, Ok, Err}
 use Rattle.std.specs.Prelude.{option_map, is_some}
 use Rattle.std.specs.List.{find}
-use Rattle.ln_msgs.specs.declared.refusals.refusal.Refusal.{Refusal}
-use Rattle.ln_msgs.specs.declared.refusals.refusal.Refusal.TheVariants as refusal
-use Rattle.ln_msgs.specs.Refusals.Refusal.{refusal_number}
+use Rattle.ln_refusals.specs.declared.refusal.Refusal.{Refusal}
+use Rattle.ln_refusals.specs.declared.refusal.Refusal.TheVariants as refusal
+use Rattle.ln_refusals.specs.Refusal.{refusal_number}
 use Rattle.ln_keys.specs.declared.keys.ChannelKeys.{Ghosts}
 use Rattle.ln_hooks.specs.declared.verdict.Verdict.{Verdict}
 use Rattle.ln_log.specs.declared.mark.Decision.{Decision}

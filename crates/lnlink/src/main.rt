@@ -2,11 +2,12 @@
 #![tactic(auto)]
 
 ghost use Rattle.std.specs.Prelude.{◌≡◌, ◌⊎◌, IfErr};
-ghost use Rattle.ln_msgs.specs.declared.refusals.refusal.Refusal.TheVariants.{Memory};
+ghost use Rattle.ln_refusals.specs.declared.refusal.Refusal.TheVariants.{Memory};
 
 use ln_commands::{Choice, ProgramError, perform};
 use ln_demo::demo;
-use ln_msgs::{Counted, Refusal};
+use ln_msgs::Counted;
+use ln_refusals::Refusal;
 use ln_words::{Asked, Unasked, choose};
 use std::env::Env;
 use std::io::ErrorKind;

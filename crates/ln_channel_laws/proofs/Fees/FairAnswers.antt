@@ -3,8 +3,8 @@
 use Rattle.std.proofs.Common.{◌≡◌, ℕ, ◌≤◌, min, max, refl, arith, Bool, true, false, cond, ◌&&◌, ◌==◌, nat_le}
 use Rattle.std.proofs.Common.{Option, Some, None, is_none, Result, Ok, Err}
 use Rattle.std.proofs.lemmas.Bool.{leb-true}
-use Rattle.ln_msgs.specs.declared.refusals.refusal.Refusal.{Refusal}
-use Rattle.ln_msgs.specs.declared.refusals.refusal.Refusal.TheVariants as refusal
+use Rattle.ln_refusals.specs.declared.refusal.Refusal.{Refusal}
+use Rattle.ln_refusals.specs.declared.refusal.Refusal.TheVariants as refusal
 use Rattle.ln_close.specs.declared.closing.Fees.{Fees}
 use Rattle.ln_close.specs.declared.closing.FeeAnswer.{FeeAnswer}
 use Rattle.ln_close.specs.declared.closing.FeeAnswer.TheVariants as answer

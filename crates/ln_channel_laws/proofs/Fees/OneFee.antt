@@ -8,8 +8,8 @@ use Rattle.byteorder.specs.Numbers.{big_number-reads_back, length-bytes_high_fir
 use Rattle.ln_msgs.specs.declared.messages.message.Message.{Message}
 use Rattle.ln_msgs.specs.declared.messages.message.Message.TheVariants as message
 use Rattle.ln_msgs.specs.declared.messages.closing.ClosingSigned.{ClosingSigned}
-use Rattle.ln_msgs.specs.declared.refusals.refusal.Refusal.{Refusal}
-use Rattle.ln_msgs.specs.declared.refusals.refusal.Refusal.TheVariants as refusal
+use Rattle.ln_refusals.specs.declared.refusal.Refusal.{Refusal}
+use Rattle.ln_refusals.specs.declared.refusal.Refusal.TheVariants as refusal
 use Rattle.ln_keys.specs.Signer.{Signer}
 use Rattle.ln_close.specs.declared.closing.FeeAnswer.{FeeAnswer}
 use Rattle.ln_close.specs.declared.closing.Closing.{Closing}

@@ -3,8 +3,8 @@
 use Rattle.std.proofs.Common.{◌≡◌, ◌⊎◌, inl, inr, ℕ, ◌≤◌, min, max, refl, sym, ap, ◌∙◌, subst, arith, true, false}
 use Rattle.std.proofs.Common.{cond, ◌&&◌, ◌==◌, nat_le, Option, Some, None, is_some, is_none, Result, Ok, Err}
 use Rattle.std.proofs.lemmas.Bool.{eqb-true, leb-true}
-use Rattle.ln_msgs.specs.declared.refusals.refusal.Refusal.{Refusal}
-use Rattle.ln_msgs.specs.declared.refusals.refusal.Refusal.TheVariants as refusal
+use Rattle.ln_refusals.specs.declared.refusal.Refusal.{Refusal}
+use Rattle.ln_refusals.specs.declared.refusal.Refusal.TheVariants as refusal
 use Rattle.ln_close.specs.declared.closing.Fees.{Fees}
 use Rattle.ln_close.specs.declared.closing.FeeAnswer.{FeeAnswer}
 use Rattle.ln_close.specs.declared.closing.FeeAnswer.TheVariants as answer

@@ -5,8 +5,8 @@ use Rattle.std.proofs.Common.{cond, not, ◌||◌, ◌==◌, nat_le, option_map,
 use Rattle.std.proofs.lemmas.Bool.Decides.{eqb_tells}
 use Rattle.ln_msgs.specs.declared.messages.commitments.CommitmentSigned.{CommitmentSigned}
 use Rattle.ln_msgs.specs.declared.messages.commitments.RevokeAndAck.{RevokeAndAck}
-use Rattle.ln_msgs.specs.declared.refusals.refusal.Refusal.{Refusal}
-use Rattle.ln_msgs.specs.declared.refusals.refusal.Refusal.TheVariants as refusal
+use Rattle.ln_refusals.specs.declared.refusal.Refusal.{Refusal}
+use Rattle.ln_refusals.specs.declared.refusal.Refusal.TheVariants as refusal
 use Rattle.ln_keys.specs.declared.role.Role.{Role}
 use Rattle.ln_keys.specs.Role.{other_role}
 use Rattle.ln_keys.specs.Signer.{Signer}

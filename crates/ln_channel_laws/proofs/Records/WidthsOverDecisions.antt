@@ -6,8 +6,8 @@ use Rattle.std.proofs.lemmas.Bool.{eqb-true, ltb-true}
 use Rattle.std.specs.List.{slice_get, list_any}
 use Rattle.ln_log.specs.declared.mark.Decision.{Decision}
 use Rattle.ln_channel.specs.Ledger.{is_of_event, is_held_at, with_mark, is_answer}
-use Rattle.ln_msgs.specs.declared.refusals.refusal.Refusal.{Refusal}
-use Rattle.ln_msgs.specs.declared.refusals.refusal.Refusal.TheVariants as refusal
+use Rattle.ln_refusals.specs.declared.refusal.Refusal.{Refusal}
+use Rattle.ln_refusals.specs.declared.refusal.Refusal.TheVariants as refusal
 use Rattle.ln_log.specs.declared.mark.EventRef.{EventRef}
 use Rattle.ln_log.specs.declared.mark.EventRef.TheVariants as ref
 use Rattle.ln_log.specs.declared.mark.Mark.{Mark}

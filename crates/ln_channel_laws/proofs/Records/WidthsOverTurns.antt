@@ -14,9 +14,9 @@ use Rattle.ln_msgs.specs.declared.messages.closing.Shutdown.{Shutdown as Shutdow
 use Rattle.ln_msgs.specs.declared.messages.commitments.ChannelReestablish.{ChannelReestablish}
 use Rattle.ln_msgs.specs.declared.messages.commitments.RevokeAndAck.{RevokeAndAck}
 use Rattle.ln_msgs.specs.declared.messages.opening.ChannelReady.{ChannelReady}
-use Rattle.ln_msgs.specs.declared.refusals.refusal.Refusal.{Refusal}
-use Rattle.ln_msgs.specs.declared.refusals.refusal.Refusal.TheVariants as refusal
-use Rattle.ln_msgs.specs.declared.refusals.peer_rule.PeerRule.TheVariants as rule
+use Rattle.ln_refusals.specs.declared.refusal.Refusal.{Refusal}
+use Rattle.ln_refusals.specs.declared.refusal.Refusal.TheVariants as refusal
+use Rattle.ln_refusals.specs.declared.peer_rule.PeerRule.TheVariants as rule
 use Rattle.ln_keys.specs.Signer.{Signer}
 use Rattle.ln_log.specs.declared.update.Add.{Add}
 use Rattle.ln_log.specs.declared.mark.Settlement.{Settlement}

@@ -4,9 +4,8 @@
 ghost use Rattle.ln_bytes.specs.Reading.{Gives, Reads};
 ghost use Rattle.ln_msgs.specs.Codec.Field.{bytes_at as fixed_at, number_at, string_at, list_at, items_at};
 
-use crate::messages::signatures::Signatures;
 use byteorder::{BigEndian, ByteOrder};
-use ln_bytes::{Bytes, Fault};
+use ln_bytes::{Bytes, Fault, Signatures};
 use std::alloc::Global;
 
 /// One byte.

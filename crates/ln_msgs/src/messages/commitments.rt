@@ -4,8 +4,7 @@ use crate::codec::field::{array_at, signatures_at, u64_at};
 use crate::messages::item::Item;
 use crate::messages::item_list::Items;
 use crate::messages::records::{Records, records_at};
-use crate::messages::signatures::Signatures;
-use ln_bytes::Fault;
+use ln_bytes::{Fault, Signatures};
 use std::alloc::Global;
 
 /// Signs the other side's next commitment (BOLT 2, "Committing Updates So Far: `commitment_signed`").

@@ -1,6 +1,6 @@
 use Rattle.std.proofs.Common.{◌≡◌, ◌++◌, [], subst, IfOk, IfErr, inl, refl, option_to_list, option_map}
 use Rattle.ln_msgs.specs.Messages.Typed.{wire}
-use Rattle.ln_msgs.specs.declared.refusals.refusal.Refusal.TheVariants as refusal
+use Rattle.ln_refusals.specs.declared.refusal.Refusal.TheVariants as refusal
 use Rattle.ln_node_loops.specs.Turn.{Goes}
 use Rattle.ln_node_loops.proofs.Idle.{sends_only}
 use Rattle.ln_node_loops.proofs.turn.send_one.Goals as goal

@@ -1,7 +1,7 @@
 use Rattle.std.proofs.Common.{◌≡◌, IfOk, IfErr, subst}
 use Rattle.std.specs.FinMap as map
 use Rattle.sqlite.specs.Held.{state}
-use Rattle.ln_msgs.specs.declared.refusals.refusal.Refusal.TheVariants.{Memory}
+use Rattle.ln_refusals.specs.declared.refusal.Refusal.TheVariants.{Memory}
 use Rattle.ln_sqlite.specs.Reading.{TakesAll, ShowRecords}
 use Rattle.ln_sqlite.proofs.Reading.{all_read, all_records}
 use Rattle.ln_sqlite.proofs.rows.read_copies.Goals as goal

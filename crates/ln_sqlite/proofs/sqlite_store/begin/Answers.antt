@@ -1,7 +1,7 @@
 use Rattle.std.proofs.Common.{◌≡◌, IsTrue, refl}
 use Rattle.sqlite.specs.Held.{state}
 use Rattle.sqlite.specs.State.{HasCleanDisk}
-use Rattle.ln_msgs.specs.declared.refusals.refusal.Refusal.TheVariants.{Memory}
+use Rattle.ln_refusals.specs.declared.refusal.Refusal.TheVariants.{Memory}
 use Rattle.ln_sqlite.specs.Begins.{IsReady, Stays}
 use Rattle.ln_sqlite.proofs.Beginning.{begins, begins_empty, without_memory, changes, mid_schema}
 use Rattle.ln_sqlite.proofs.sqlite_store.begin.Goals as goal

@@ -1,5 +1,5 @@
 use Rattle.std.proofs.Common.{◌∙◌, sym, ap, arith, cond, Bool, Ok, Err, inr}
-use Rattle.ln_msgs.specs.declared.refusals.refusal.Refusal.TheVariants as refusal
+use Rattle.ln_refusals.specs.declared.refusal.Refusal.TheVariants as refusal
 use Rattle.ln_store.specs.Items as it
 use Rattle.ln_store.proofs.Records.{told, only_readable}
 use Rattle.ln_store.proofs.codec.items_of.Goals as goal

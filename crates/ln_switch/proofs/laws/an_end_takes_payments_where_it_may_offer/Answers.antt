@@ -1,6 +1,6 @@
 use Rattle.std.proofs.Common.{ap, ◌∙◌, sym, cond, Some}
 use Rattle.std.specs.Prelude.{not, ◌&&◌, is_none}
-use Rattle.ln_msgs.specs.declared.refusals.refusal.Refusal.TheVariants as refusal
+use Rattle.ln_refusals.specs.declared.refusal.Refusal.TheVariants as refusal
 use Rattle.ln_channel.specs.Commands.{shut_by_either}
 use Rattle.ln_channel.specs.End.{is_ready}
 use Rattle.ln_channel.specs.State.{is_down}

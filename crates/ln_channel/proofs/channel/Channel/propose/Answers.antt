@@ -1,5 +1,5 @@
 use Rattle.std.proofs.Common.{subst, sym, ◌∙◌, Option}
-use Rattle.ln_msgs.specs.declared.refusals.refusal.Refusal.{Refusal}
+use Rattle.ln_refusals.specs.declared.refusal.Refusal.{Refusal}
 use Rattle.ln_log.specs.Limits.{first_fault}
 use Rattle.ln_log.specs.Log.{proposal_fault}
 use Rattle.ln_channel.specs.Opening.{AnswersFault}

@@ -1,5 +1,5 @@
 use Rattle.std.proofs.Common.{ap, ◌∙◌, append_assoc, ◌≡◌, OnOk, Result, Ok, Err, List, ◌++◌}
-use Rattle.ln_msgs.specs.declared.refusals.refusal.Refusal.{Refusal}
+use Rattle.ln_refusals.specs.declared.refusal.Refusal.{Refusal}
 use Rattle.ln_channel.specs.declared.output.Output.{Output}
 use Rattle.ln_channel.specs.Outputs.{Handed}
 use Rattle.ln_channel.specs.Resume.{ready_again, owed_again, shutdown_again, fee_again}

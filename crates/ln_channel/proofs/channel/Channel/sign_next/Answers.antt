@@ -1,5 +1,5 @@
 use Rattle.std.proofs.Common.{sym, ◌∙◌}
-use Rattle.ln_msgs.specs.declared.refusals.refusal.Refusal.TheVariants as refusal
+use Rattle.ln_refusals.specs.declared.refusal.Refusal.TheVariants as refusal
 use Rattle.ln_dance.specs.Dance.{after_sign, sign_fault}
 use Rattle.ln_channel.specs.End.{End, is_ready}
 use Rattle.ln_channel.proofs.Accepting.{sound, dance_stands, stands_with_dance, on_ok, within_if}

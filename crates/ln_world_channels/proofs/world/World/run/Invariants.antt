@@ -1,6 +1,6 @@
 use Rattle.std.proofs.Common.{◌≡◌, ◌++◌, length}
 use Rattle.std.specs.Vec.Iter.{into_iter_items, into_iter_len}
-use Rattle.ln_msgs.specs.declared.refusals.refusal.Refusal.{Refusal}
+use Rattle.ln_refusals.specs.declared.refusal.Refusal.{Refusal}
 use Rattle.ln_world_channels.specs.World.{run, run_lines}
 use Rattle.ln_world_channels.specs.Failing.{SomeMayFail}
 use Rattle.ln_world_channels.proofs.world.World.run.Given as goal

@@ -1,4 +1,3 @@
 pub mod Refusal
 pub mod PeerRule
 pub mod RefusalText
-pub mod Reply

@@ -3,8 +3,8 @@ use Rattle.std.specs.Prelude.{ℕ, List, [], ◌∷◌, ◌++◌, Option, Some, 
 use Rattle.std.specs.Fmt.{decimal}
 use Rattle.ln_msgs.specs.Codec.Field.{Str}
 use Rattle.ln_msgs.specs.Messages.Message.{Wire}
-use Rattle.ln_msgs.specs.Refusals.Refusal.{refusal_number}
-use Rattle.ln_msgs.specs.declared.refusals.refusal.Refusal.{Refusal}
+use Rattle.ln_refusals.specs.Refusal.{refusal_number}
+use Rattle.ln_refusals.specs.declared.refusal.Refusal.{Refusal}
 
 -- `refused` and the number, in ASCII
 abbrev pub text_of_number : ℕ → List ℕ

@@ -1,31 +1,35 @@
 //! How a peer is told that its message is refused.
 
 ghost use Rattle.std.specs.Prelude.{◌≡◌, IfOk};
-ghost use Rattle.ln_msgs.specs.Refusals.Reply.{text_of_number};
+ghost use Rattle.ln_msgs.specs.Messages.Reply.{text_of_number};
 
 use crate::messages::message::Message;
 use crate::messages::records::Records;
 use crate::messages::setup::{Error, Warning};
-use crate::refusals::refusal::Refusal;
 use ln_bytes::Bytes;
+use ln_refusals::Refusal;
 use std::alloc::{AllocError, Global};
 
-impl Refusal {
+impl Message {
     ghost use Rattle.std.specs.Prelude.{◌≡◌, ◌≢◌, None, option_map, IfOk, IfErr};
-    ghost use Rattle.ln_msgs.specs.Refusals.Reply.{reply_to};
+    ghost use Rattle.ln_msgs.specs.Messages.Reply.{reply_to};
     ghost use Rattle.ln_msgs.specs.Messages.Typed.{wire};
 
-    /// What the peer is sent whose message for this channel is refused so (BOLT 1, "The `error` and `warning`
+    /// What a peer is sent whose message for this channel is refused so (BOLT 1, "The `error` and `warning`
     /// Messages"): an error for 20 to 35, a warning for 36, and nothing for the others. Its bytes are the ASCII
     /// text `refused` and the number, with one blank between; it has no records.
     ///
     /// Takes memory for that text. The only error is 60, where there is none.
-    pub fn reply(&self, alloc: Global, channel_id: &[u8; 32]) -> Result<Option<Message>, Refusal>
-        ensures is_the_reply { IfOk result (λ m. option_map wire m ≡ reply_to self.now channel_id.now) }
+    pub fn reply_to(
+        alloc: Global,
+        refusal: Refusal,
+        channel_id: &[u8; 32],
+    ) -> Result<Option<Message>, Refusal>
+        ensures is_the_reply { IfOk result (λ m. option_map wire m ≡ reply_to refusal channel_id.now) }
         ensures fails_for_memory_alone { IfErr result (λ e. (e ≡ Refusal.Memory)
-            × (reply_to self.now channel_id.now ≢ None)) }
+            × (reply_to refusal channel_id.now ≢ None)) }
     {
-        let number = self.number();
+        let number = refusal.number();
         match number {
             20..=35 => {
                 let bytes = refused_text(alloc, number)?;

@@ -1,6 +1,6 @@
 //! The rules by which a peer would refuse what a command sends it.
 
-use crate::refusals::refusal::Refusal;
+use crate::refusal::Refusal;
 
 /// A rule of the peer's (BOLT 2, "Normal Operation") that a command would break. Each has the number of the refusal
 /// of its name.
@@ -30,7 +30,7 @@ pub enum PeerRule {
 
 impl PeerRule {
     ghost use Rattle.std.specs.Prelude.{◌≡◌};
-    ghost use Rattle.ln_msgs.specs.Refusals.PeerRule.{rule_number};
+    ghost use Rattle.ln_refusals.specs.PeerRule.{rule_number};
 
     /// The number by which the peer would refuse: 7, 21 or 23 to 30. Takes no memory.
     pub fn number(&self) -> u16
@@ -53,7 +53,7 @@ impl PeerRule {
 
 impl Refusal {
     ghost use Rattle.std.specs.Prelude.{◌≡◌};
-    ghost use Rattle.ln_msgs.specs.Refusals.PeerRule.{rule_of};
+    ghost use Rattle.ln_refusals.specs.PeerRule.{rule_of};
 
     /// The rule that a refusal of a peer's update tells of; 21 for a refusal that tells of none. Takes no memory.
     pub fn peer_rule(&self) -> PeerRule

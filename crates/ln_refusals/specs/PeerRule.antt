@@ -1,9 +1,9 @@
 -- The rules by which a peer would refuse what a command sends it.
 use Rattle.std.specs.Prelude.{ℕ}
-use Rattle.ln_msgs.specs.declared.refusals.peer_rule.PeerRule.{PeerRule}
-use Rattle.ln_msgs.specs.declared.refusals.peer_rule.PeerRule.TheVariants as rule
-use Rattle.ln_msgs.specs.declared.refusals.refusal.Refusal.{Refusal}
-use Rattle.ln_msgs.specs.declared.refusals.refusal.Refusal.TheVariants as refusal
+use Rattle.ln_refusals.specs.declared.peer_rule.PeerRule.{PeerRule}
+use Rattle.ln_refusals.specs.declared.peer_rule.PeerRule.TheVariants as rule
+use Rattle.ln_refusals.specs.declared.refusal.Refusal.{Refusal}
+use Rattle.ln_refusals.specs.declared.refusal.Refusal.TheVariants as refusal
 
 abbrev pub rule_number : PeerRule → ℕ
 rule_number rule.TooLong = 7

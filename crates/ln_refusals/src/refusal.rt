@@ -1,6 +1,6 @@
 //! Why a message, a command, a script or a record is refused, by number.
 
-use crate::refusals::peer_rule::PeerRule;
+use crate::peer_rule::PeerRule;
 use ln_bytes::Fault;
 use std::alloc::{AllocError, AllocFailed};
 use std::fmt;
@@ -108,7 +108,7 @@ pub enum Refusal {
 
 impl Refusal {
     ghost use Rattle.std.specs.Prelude.{◌≡◌};
-    ghost use Rattle.ln_msgs.specs.Refusals.Refusal.{refusal_number, refusal_name};
+    ghost use Rattle.ln_refusals.specs.Refusal.{refusal_number, refusal_name};
 
     /// The number by which the refusal is told: 1 to 9, 20 to 37, 40 to 49, 60 to 65, 70 or 71.
     pub fn number(&self) -> u16
@@ -220,7 +220,7 @@ impl Refusal {
 
 impl Display for Refusal {
     ghost use Rattle.std.specs.Prelude.{Some};
-    ghost use Rattle.ln_msgs.specs.Refusals.RefusalText.{refusal_text};
+    ghost use Rattle.ln_refusals.specs.RefusalText.{refusal_text};
 
     ghost output = { λ r. Some (refusal_text r) };
 
@@ -235,7 +235,7 @@ impl Display for Refusal {
 
 impl From<Fault> for Refusal {
     ghost use Rattle.std.specs.Prelude.{◌≡◌};
-    ghost use Rattle.ln_msgs.specs.Refusals.Refusal.{refusal_of};
+    ghost use Rattle.ln_refusals.specs.Refusal.{refusal_of};
 
     ghost from_gives = { λ f e. e ≡ refusal_of f };
 
@@ -258,7 +258,7 @@ impl From<Fault> for Refusal {
 
 impl From<AllocError> for Refusal {
     ghost use Rattle.std.specs.Prelude.{◌≡◌};
-    ghost use Rattle.ln_msgs.specs.declared.refusals.refusal.Refusal.TheVariants.{Memory};
+    ghost use Rattle.ln_refusals.specs.declared.refusal.Refusal.TheVariants.{Memory};
 
     ghost from_gives = { λ _ e. e ≡ Memory };
 
@@ -269,7 +269,7 @@ impl From<AllocError> for Refusal {
 
 impl<T: Drop> From<AllocFailed<T>> for Refusal {
     ghost use Rattle.std.specs.Prelude.{◌≡◌};
-    ghost use Rattle.ln_msgs.specs.declared.refusals.refusal.Refusal.TheVariants.{Memory};
+    ghost use Rattle.ln_refusals.specs.declared.refusal.Refusal.TheVariants.{Memory};
 
     ghost from_gives = { λ _ e. e ≡ Memory };
 
