@@ -1,11 +1,11 @@
 //! Orders that are answered.
 
+use crate::node::Driven;
 use crate::row::Row;
 use ln_channel::Command;
-use ln_node::{Answer, Signing, Table, Ticket};
-use ln_node_faults::{End, FEE, Gauged, NoHook, order};
+use ln_node::{Answer, Signing, Ticket};
+use ln_node_faults::{End, FEE, order};
 use ln_refusals::Refusal;
-use ln_store::RecordStore;
 use std::net::{Net, TcpListener, TcpStream};
 use std::sync::Wait;
 use std::thread::Threads;
@@ -42,10 +42,9 @@ fn must(is: bool) -> Result<(), Refusal> {
     if is { Ok(()) } else { Err(Refusal::GaveUp) }
 }
 
-impl<S, T, R> Row<S, T, R>
+impl<N, R> Row<N, R>
 where
-    S: RecordStore + Gauged + Drop + Send + 'static,
-    T: Table<NoHook> + Gauged + Drop + Send + 'static,
+    N: Driven + Drop,
     R: Net<Listener = TcpListener, Stream = TcpStream> + Threads + Wait + Copy + Send + 'static,
 {
     /// Orders an end this, which is answered so; and then no more.

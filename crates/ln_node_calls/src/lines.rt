@@ -1,13 +1,12 @@
 //! The lines, one by one.
 
 use crate::asking::Wanted;
+use crate::node::{Driven, ToyNode};
 use crate::row::Row;
 use crate::words::{BAD, at, command, end, node, number, saying, side, signing, small};
 use ln_channel::Command;
-use ln_node::Table;
-use ln_node_faults::{A0, C0, End, FEE, Gauged, NoHook};
+use ln_node_faults::{A0, C0, End, FEE};
 use ln_refusals::Refusal;
-use ln_store::RecordStore;
 use std::alloc::Global;
 use std::net::{Net, TcpListener, TcpStream};
 use std::sync::Wait;
@@ -23,10 +22,9 @@ fn wanted(word: &str, number: u64) -> Result<Wanted, Refusal> {
     }
 }
 
-impl<S, T, R> Row<S, T, R>
+impl<N, R> Row<N, R>
 where
-    S: RecordStore + Gauged + Drop + Send + 'static,
-    T: Table<NoHook> + Gauged + Drop + Send + 'static,
+    N: Driven + Drop,
     R: Net<Listener = TcpListener, Stream = TcpStream> + Threads + Wait + Copy + Send + 'static,
 {
     fn pays(&self, words: &[&str]) -> Result<(), Refusal> {
@@ -151,42 +149,6 @@ where
         }
     }
 
-    // What a line of one word has the nodes do.
-    fn act_together(&mut self, verb: &str) -> Result<(), Refusal> {
-        match verb {
-            "meet" => self.meet(),
-            "confirm" => self.confirm(),
-            "open" => {
-                self.meet()?;
-                self.confirm()
-            }
-            "stop" => {
-                self.stop();
-                Ok(())
-            }
-            _ => Err(BAD),
-        }
-    }
-
-    // One of two words, of which the second is a number, a node, an end or when to sign.
-    fn act_by(&mut self, verb: &str, word: &str) -> Result<(), Refusal> {
-        match verb {
-            "listen" => self.listen(small(word)?),
-            "restart" => self.restart(node(word)?),
-            "looks" => {
-                for _ in 0..number(word)? {
-                    self.look();
-                }
-                Ok(())
-            }
-            "signing" => {
-                self.set_signing(signing(word)?);
-                Ok(())
-            }
-            verb => self.does(verb, end(word)?),
-        }
-    }
-
     // One of three.
     fn act_by_two(&self, words: &[&str]) -> Result<(), Refusal> {
         match at(words, 0) {
@@ -227,6 +189,47 @@ where
             "ask" => self.asks_to_pay_by(words),
             "order" => self.asks_by(words),
             _ => Err(BAD),
+        }
+    }
+}
+
+impl<R> Row<ToyNode, R>
+where
+    R: Net<Listener = TcpListener, Stream = TcpStream> + Threads + Wait + Copy + Send + 'static,
+{
+    // What a line of one word has the nodes do.
+    fn act_together(&mut self, verb: &str) -> Result<(), Refusal> {
+        match verb {
+            "meet" => self.meet(),
+            "confirm" => self.confirm(),
+            "open" => {
+                self.meet()?;
+                self.confirm()
+            }
+            "stop" => {
+                self.stop();
+                Ok(())
+            }
+            _ => Err(BAD),
+        }
+    }
+
+    // One of two words, of which the second is a number, a node, an end or when to sign.
+    fn act_by(&mut self, verb: &str, word: &str) -> Result<(), Refusal> {
+        match verb {
+            "listen" => self.listen(small(word)?),
+            "restart" => self.restart(node(word)?),
+            "looks" => {
+                for _ in 0..number(word)? {
+                    self.look();
+                }
+                Ok(())
+            }
+            "signing" => {
+                self.set_signing(signing(word)?);
+                Ok(())
+            }
+            verb => self.does(verb, end(word)?),
         }
     }
 

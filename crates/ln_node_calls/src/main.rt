@@ -42,15 +42,15 @@
 #![tactic(auto)]
 
 mod asking;
+mod beginning;
 mod lines;
 mod news;
+mod node;
 mod row;
 mod words;
 
+use crate::node::ToyNode;
 use crate::row::Row;
-use ln_node::Table;
-use ln_node_faults::{FailingRecords, Gauged, NoHook, Watch};
-use ln_store::RecordStore;
 use std::io::{BufRead, BufReader};
 use std::net::{Net, TcpListener, TcpStream};
 use std::process::ExitCode;
@@ -58,10 +58,8 @@ use std::sync::Wait;
 use std::thread::Threads;
 
 // Drives nodes line by line, and prints each. False where one is refused, or can't be read.
-fn drive<S, T, R, L>(host: &HostRuntime, row: &mut Row<S, T, R>, lines: L) -> bool
+fn drive<R, L>(host: &HostRuntime, row: &mut Row<ToyNode, R>, lines: L) -> bool
 where
-    S: RecordStore + Gauged + Drop + Send + 'static,
-    T: Table<NoHook> + Gauged + Drop + Send + 'static,
     R: Net<Listener = TcpListener, Stream = TcpStream> + Threads + Wait + Copy + Send + 'static,
     L: BufRead + Drop,
 {
@@ -81,10 +79,8 @@ where
 }
 
 // The same from the input, and stops the nodes.
-fn run<S, T, R>(rt: R, host: &HostRuntime) -> bool
+fn run<R>(rt: R, host: &HostRuntime) -> bool
 where
-    S: RecordStore + Gauged + Drop + Send + 'static,
-    T: Table<NoHook> + Gauged + Drop + Send + 'static,
     R: Net<Listener = TcpListener, Stream = TcpStream> + Threads + Wait + Copy + Send + 'static,
 {
     let Ok(lines) = BufReader::new(host.alloc(), host.reader()) else {
@@ -93,14 +89,14 @@ where
     let Ok(row) = Row::new(rt, host.alloc()) else {
         return false;
     };
-    let mut row: Row<S, T, R> = row;
+    let mut row: Row<ToyNode, R> = row;
     let done = drive(host, &mut row, lines);
     row.stop();
     done
 }
 
 fn main(rt: HostRuntime) -> ExitCode {
-    if run::<FailingRecords, Watch, HostRuntime>(rt, &rt) {
+    if run::<HostRuntime>(rt, &rt) {
         ExitCode::SUCCESS
     } else {
         ExitCode::FAILURE

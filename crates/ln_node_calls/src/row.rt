@@ -1,22 +1,18 @@
 //! Three nodes in a row: A has a channel with B, and B one with C.
 
 use crate::news::{count_notice, count_step};
+use crate::node::Driven;
 use ln_bytes::Bytes;
 use ln_channel::Command;
 use ln_hooks::Verdict;
-use ln_keys::{ToyKeys, ToyOnion};
 use ln_msgs::channel_id;
-use ln_node::{Node, Signing, Stored, Table, Ticket};
+use ln_node::{Signing, Ticket};
 use ln_node_faults::{
-    A0, AMOUNT, B0, B1, C0, ENDS, End, Gauge, Gauged, NoHook, OpenProxy, SECRET, config, counted,
-    is_refused, loopback, order, preimage, state_word, value_of,
+    A0, B0, B1, C0, ENDS, End, Gauge, OpenProxy, counted, is_refused, order, state_word, value_of,
 };
 use ln_refusals::Refusal;
-use ln_store::RecordStore;
-use ln_toy_channels::{POLICY, fit_spec};
 use std::alloc::{AllocError, Global};
-use std::mem;
-use std::net::{Net, SocketAddr, TcpListener, TcpStream};
+use std::net::{Net, TcpListener, TcpStream};
 use std::sync::atomic::{AtomicU64, Ordering};
 use std::sync::{Arc, Mutex, Wait};
 use std::thread::Threads;
@@ -25,35 +21,32 @@ use std::time::Duration;
 /// How often is looked whether what is waited for has come, until that is given up.
 const LOOKS: u64 = 40_000;
 
-/// A node with toy keys and a toy onion. Its stores and its tables of hooks are of these kinds.
-pub type ToyNode<S, T> = Node<ToyKeys, S, ToyOnion, NoHook, T>;
-
 /// Three nodes, the proxies between them, and the gauges of all ends. Nothing of each before `open`.
 #[derive(Drop)]
-pub struct Row<S: Drop, T: Drop, R: Drop> {
+pub struct Row<N: Drop, R: Drop> {
     pub rt: R,
     pub alloc: Global,
-    pub nodes: Vec<ToyNode<S, T>>,
-    proxies: Vec<OpenProxy>,
-    gauges: Vec<Arc<Gauge>>,
+    pub nodes: Vec<N>,
+    pub proxies: Vec<OpenProxy>,
+    pub gauges: Vec<Arc<Gauge>>,
     /// No connection is lost as long as it is held.
     pub gate: Arc<Mutex<()>>,
-    // When all nodes sign.
-    signing: Signing,
+    /// When all nodes sign.
+    pub signing: Signing,
 }
 
 fn let_go<T: Drop>(_value: T) {}
 
-// The gauge of an end.
-fn gauge_of(gauges: &[Arc<Gauge>], end: End) -> Result<&Arc<Gauge>, Refusal> {
+/// The gauge of an end.
+pub fn gauge_of(gauges: &[Arc<Gauge>], end: End) -> Result<&Arc<Gauge>, Refusal> {
     match gauges.get(end.number) {
         Some(gauge) => Ok(gauge),
         None => Err(Refusal::NotReady),
     }
 }
 
-// The end of a node that has this number there.
-fn end_of(node: usize, channel: usize) -> Option<End> {
+/// The end of a node that has this number there.
+pub fn end_of(node: usize, channel: usize) -> Option<End> {
     for end in ENDS {
         if end.node == node && end.channel == channel {
             return Some(end);
@@ -62,14 +55,13 @@ fn end_of(node: usize, channel: usize) -> Option<End> {
     None
 }
 
-impl<S, T, R> Row<S, T, R>
+impl<N, R> Row<N, R>
 where
-    S: RecordStore + Gauged + Drop + Send + 'static,
-    T: Table<NoHook> + Gauged + Drop + Send + 'static,
+    N: Driven + Drop,
     R: Net<Listener = TcpListener, Stream = TcpStream> + Threads + Wait + Copy + Send + 'static,
 {
     /// Nothing yet.
-    pub fn new(rt: R, alloc: Global) -> Result<Row<S, T, R>, AllocError> {
+    pub fn new(rt: R, alloc: Global) -> Result<Row<N, R>, AllocError> {
         Ok(Row {
             rt,
             alloc,
@@ -96,68 +88,11 @@ where
     }
 
     /// The node of an end. 40 where none runs.
-    pub fn node(&self, end: End) -> Result<&ToyNode<S, T>, Refusal> {
+    pub fn node(&self, end: End) -> Result<&N, Refusal> {
         match self.nodes.get(end.node) {
             Some(node) => Ok(node),
             None => Err(Refusal::NotReady),
         }
-    }
-
-    // ---- the nodes begin
-
-    // A new node.
-    fn begin(&mut self) -> Result<(), Refusal> {
-        let mut node: ToyNode<S, T> = Node::new(self.alloc, ToyOnion, POLICY)?;
-        node.set_signing(self.signing);
-        node.book().lock(&self.rt).set_height(100);
-        self.nodes.push(node)?;
-        Ok(())
-    }
-
-    // The channel of an end that listens begins, and a proxy that leads there.
-    fn begin_at(&mut self, end: End, accepted: u16) -> Result<(), Refusal> {
-        let gauge = gauge_of(self.gauges.as_slice(), end)?;
-        let Some(node) = self.nodes.get_mut(end.node) else {
-            return Err(Refusal::NotReady);
-        };
-        let store = S::gauged(self.alloc, gauge)?;
-        let table = T::gauged(self.alloc, gauge)?;
-        let config = config(self.alloc, accepted)?;
-        let keys = end.keys();
-        let at = node.listen(self.rt, self.alloc, keys, config, store, table, loopback())?;
-        let proxy = OpenProxy::new(self.rt, self.alloc, at, &self.gate)?;
-        self.proxies.push(proxy)?;
-        Ok(())
-    }
-
-    // The channel of an end that connects begins.
-    fn connect(&mut self, end: End) -> Result<(), Refusal> {
-        let gauge = gauge_of(self.gauges.as_slice(), end)?;
-        let (Some(proxy), Some(node)) = (self.proxies.get(end.proxy), self.nodes.get_mut(end.node))
-        else {
-            return Err(Refusal::NotReady);
-        };
-        let store = S::gauged(self.alloc, gauge)?;
-        let table = T::gauged(self.alloc, gauge)?;
-        let spec = fit_spec(self.alloc, end.txid())?;
-        let keys = end.keys();
-        node.connect(self.rt, self.alloc, keys, spec, store, table, proxy.begin)?;
-        proxy.proxy.made.fetch_add(1, Ordering::SeqCst);
-        Ok(())
-    }
-
-    /// New nodes in the place of those that there are: B and C listen, and C takes so many HTLCs at once.
-    pub fn listen(&mut self, accepted: u16) -> Result<(), Refusal> {
-        self.stop();
-        self.gauges = Vec::new(self.alloc);
-        for _ in ENDS {
-            self.gauges.push(Gauge::new(self.alloc)?)?;
-        }
-        for _ in 0..3 {
-            self.begin()?;
-        }
-        self.begin_at(B0, 30)?;
-        self.begin_at(C0, accepted)
     }
 
     // Orders an end this. A full relay passes it over.
@@ -166,12 +101,6 @@ where
             Ok(node) => let_go(node.order(&self.rt, end.channel, command)),
             Err(_) => let_go(command),
         }
-    }
-
-    /// A opens a channel with B, and B one with C.
-    pub fn meet(&mut self) -> Result<(), Refusal> {
-        self.connect(A0)?;
-        self.connect(B1)
     }
 
     /// Both channels are confirmed, up to all ends taking payments. 65 where that doesn't come about.
@@ -188,16 +117,6 @@ where
             self.look();
         }
         Err(Refusal::GaveUp)
-    }
-
-    /// Stops the nodes that there are. What was counted stays.
-    pub fn stop(&mut self) {
-        for node in mem::replace(&mut self.nodes, Vec::new(self.alloc)) {
-            node.stop(self.rt);
-        }
-        for proxy in mem::replace(&mut self.proxies, Vec::new(self.alloc)) {
-            proxy.stop(&self.rt);
-        }
     }
 
     // ---- what goes on while something is waited for
@@ -307,7 +226,7 @@ where
     pub fn is_usable(&self, end: End) -> bool {
         let id = channel_id(&end.txid(), 0);
         match self.node(end) {
-            Ok(node) => node.book().lock(&self.rt).usable(&id),
+            Ok(node) => node.is_usable(&self.rt, &id),
             Err(_) => false,
         }
     }
@@ -359,7 +278,7 @@ where
             return Err(Refusal::NotReady);
         };
         let all = node.channels(&self.rt, self.alloc)?;
-        if channel >= all.len() && is_refused(&node.summary(&self.rt, channel), wanted) {
+        if channel >= all && is_refused(&node.summary(&self.rt, channel), wanted) {
             return Ok(());
         }
         Err(Refusal::GaveUp)
@@ -399,10 +318,7 @@ where
 
     /// The payee waits for a payment.
     pub fn expect(&self, payee: End, number: u64) -> Result<(), Refusal> {
-        let node = self.node(payee)?;
-        node.book()
-            .lock(&self.rt)
-            .expect(preimage(number), SECRET, AMOUNT)
+        self.node(payee)?.expect(&self.rt, number)
     }
 
     /// Orders an end this, as soon as its relay has room.
@@ -475,7 +391,7 @@ where
         let _held = self.gate.lock(&self.rt);
         for (channel, htlc) in node.held(&self.rt, self.alloc)? {
             if channel == end.channel {
-                let_go(node.resume(&self.rt, self.alloc, channel, htlc.number, verdict)?);
+                node.resume(&self.rt, self.alloc, channel, htlc.number, verdict)?;
             }
         }
         self.begin_saves();
@@ -500,37 +416,8 @@ where
         Ok(())
     }
 
-    // ---- a node starts again
-
-    // A channel of a node that starts again.
-    fn stored(&self, end: End, store: S) -> Result<Stored<ToyKeys, S, T>, Refusal> {
-        let gauge = gauge_of(self.gauges.as_slice(), end)?;
-        let table = T::gauged(self.alloc, gauge)?;
-        Ok(Stored {
-            keys: end.keys(),
-            store,
-            table,
-            address: (!end.connects).then_some(loopback()),
-        })
-    }
-
-    // All of them.
-    fn all_stored(
-        &self,
-        node: usize,
-        stores: Vec<S>,
-    ) -> Result<Vec<Stored<ToyKeys, S, T>>, Refusal> {
-        let mut all = Vec::new(self.alloc);
-        for (channel, store) in stores.into_iter().enumerate() {
-            if let Some(end) = end_of(node, channel) {
-                all.push(self.stored(end, store)?)?;
-            }
-        }
-        Ok(all)
-    }
-
-    // The proxy of a node's first channel leads to where it listens now.
-    fn lead(&self, node: usize) {
+    /// The proxy of a node's first channel leads to where it listens now.
+    pub fn lead(&self, node: usize) {
         let Some(end) = end_of(node, 0) else {
             return;
         };
@@ -539,31 +426,5 @@ where
                 *proxy.proxy.target.lock(&self.rt) = address;
             }
         }
-    }
-
-    /// A node stops, and starts again from its stores.
-    pub fn restart(&mut self, node: usize) -> Result<(), Refusal> {
-        if node >= self.nodes.len() {
-            return Err(Refusal::NotReady);
-        }
-        let old = self.nodes.remove(node);
-        let stores = old.into_stores(self.rt, self.alloc)?;
-        let stored = self.all_stored(node, stores)?;
-        let mut new: ToyNode<S, T> = Node::restore(self.rt, self.alloc, ToyOnion, POLICY, stored)?;
-        new.set_signing(self.signing);
-        new.book().lock(&self.rt).set_height(100);
-        self.put(node, new)?;
-        self.lead(node);
-        Ok(())
-    }
-
-    // A node takes its place among the others.
-    fn put(&mut self, node: usize, new: ToyNode<S, T>) -> Result<(), Refusal> {
-        if node > self.nodes.len() {
-            new.stop(self.rt);
-            return Err(Refusal::NotReady);
-        }
-        self.nodes.insert(node, new)?;
-        Ok(())
     }
 }

@@ -1,0 +1,173 @@
+//! Nodes of the row begin, stop, and start again from their stores.
+
+use crate::node::ToyNode;
+use crate::row::{Row, end_of, gauge_of};
+use ln_channel::{FitConfig, FitSpec};
+use ln_keys::{ToyKeys, ToyOnion};
+use ln_node::{Node, Stored};
+use ln_node_faults::{
+    A0, B0, B1, C0, ENDS, End, FailingRecords, Gauge, Gauged, OpenProxy, Watch, config, loopback,
+};
+use ln_refusals::Refusal;
+use ln_toy_channels::{POLICY, fit_spec};
+use std::alloc::Global;
+use std::mem;
+use std::net::{Net, TcpListener, TcpStream};
+use std::sync::atomic::Ordering;
+use std::sync::{Arc, Wait};
+use std::thread::Threads;
+
+// What a channel is made with by the end that listens.
+fn listening(
+    alloc: Global,
+    gauge: &Arc<Gauge>,
+    accepted: u16,
+) -> Result<(FitConfig, FailingRecords, Watch), Refusal> {
+    let table = Watch::gauged(alloc, gauge)?;
+    let store = FailingRecords::gauged(alloc, gauge)?;
+    let config = config(alloc, accepted)?;
+    Ok((config, store, table))
+}
+
+// The same by the end that connects.
+fn connecting(
+    alloc: Global,
+    gauge: &Arc<Gauge>,
+    end: End,
+) -> Result<(FitSpec, FailingRecords, Watch), Refusal> {
+    let table = Watch::gauged(alloc, gauge)?;
+    let store = FailingRecords::gauged(alloc, gauge)?;
+    let spec = fit_spec(alloc, end.txid())?;
+    Ok((spec, store, table))
+}
+
+// A channel of a node that starts again.
+fn stored(
+    alloc: Global,
+    end: End,
+    gauges: &[Arc<Gauge>],
+    store: FailingRecords,
+) -> Result<Stored<ToyKeys, FailingRecords, Watch>, Refusal> {
+    let gauge = gauge_of(gauges, end)?;
+    let table = Watch::gauged(alloc, gauge)?;
+    Ok(Stored {
+        keys: end.keys(),
+        store,
+        table,
+        address: (!end.connects).then_some(loopback()),
+    })
+}
+
+// All of them.
+fn all_stored(
+    alloc: Global,
+    node: usize,
+    gauges: &[Arc<Gauge>],
+    stores: Vec<FailingRecords>,
+) -> Result<Vec<Stored<ToyKeys, FailingRecords, Watch>>, Refusal> {
+    let mut all = Vec::new(alloc);
+    for (channel, store) in stores.into_iter().enumerate() {
+        if let Some(end) = end_of(node, channel) {
+            all.push(stored(alloc, end, gauges, store)?)?;
+        }
+    }
+    Ok(all)
+}
+
+impl<R> Row<ToyNode, R>
+where
+    R: Net<Listener = TcpListener, Stream = TcpStream> + Threads + Wait + Copy + Send + 'static,
+{
+    // A new node.
+    fn begin(&mut self) -> Result<(), Refusal> {
+        let mut node: ToyNode = Node::new(self.alloc, ToyOnion, POLICY)?;
+        node.set_signing(self.signing);
+        node.book().lock(&self.rt).set_height(100);
+        self.nodes.push(node)?;
+        Ok(())
+    }
+
+    // The channel of an end that listens begins, and a proxy that leads there.
+    fn begin_at(&mut self, end: End, accepted: u16) -> Result<(), Refusal> {
+        let gauge = gauge_of(self.gauges.as_slice(), end)?;
+        let Some(node) = self.nodes.get_mut(end.node) else {
+            return Err(Refusal::NotReady);
+        };
+        let (config, store, table) = listening(self.alloc, gauge, accepted)?;
+        let keys = end.keys();
+        let at = node.listen(self.rt, self.alloc, keys, config, store, table, loopback())?;
+        let proxy = OpenProxy::new(self.rt, self.alloc, at, &self.gate)?;
+        self.proxies.push(proxy)?;
+        Ok(())
+    }
+
+    // The channel of an end that connects begins.
+    fn connect(&mut self, end: End) -> Result<(), Refusal> {
+        let gauge = gauge_of(self.gauges.as_slice(), end)?;
+        let (Some(proxy), Some(node)) = (self.proxies.get(end.proxy), self.nodes.get_mut(end.node))
+        else {
+            return Err(Refusal::NotReady);
+        };
+        let (spec, store, table) = connecting(self.alloc, gauge, end)?;
+        let keys = end.keys();
+        node.connect(self.rt, self.alloc, keys, spec, store, table, proxy.begin)?;
+        proxy.proxy.made.fetch_add(1, Ordering::SeqCst);
+        Ok(())
+    }
+
+    /// New nodes in the place of those that there are: B and C listen, and C takes so many HTLCs at once.
+    pub fn listen(&mut self, accepted: u16) -> Result<(), Refusal> {
+        self.stop();
+        self.gauges = Vec::new(self.alloc);
+        for _ in ENDS {
+            self.gauges.push(Gauge::new(self.alloc)?)?;
+        }
+        for _ in 0..3 {
+            self.begin()?;
+        }
+        self.begin_at(B0, 30)?;
+        self.begin_at(C0, accepted)
+    }
+
+    /// A opens a channel with B, and B one with C.
+    pub fn meet(&mut self) -> Result<(), Refusal> {
+        self.connect(A0)?;
+        self.connect(B1)
+    }
+
+    /// Stops the nodes that there are. What was counted stays.
+    pub fn stop(&mut self) {
+        for node in mem::replace(&mut self.nodes, Vec::new(self.alloc)) {
+            node.stop(self.rt);
+        }
+        for proxy in mem::replace(&mut self.proxies, Vec::new(self.alloc)) {
+            proxy.stop(&self.rt);
+        }
+    }
+
+    /// A node stops, and starts again from its stores.
+    pub fn restart(&mut self, node: usize) -> Result<(), Refusal> {
+        if node >= self.nodes.len() {
+            return Err(Refusal::NotReady);
+        }
+        let old = self.nodes.remove(node);
+        let stores = old.into_stores(self.rt, self.alloc)?;
+        let stored = all_stored(self.alloc, node, self.gauges.as_slice(), stores)?;
+        let mut new: ToyNode = Node::restore(self.rt, self.alloc, ToyOnion, POLICY, stored)?;
+        new.set_signing(self.signing);
+        new.book().lock(&self.rt).set_height(100);
+        self.put(node, new)?;
+        self.lead(node);
+        Ok(())
+    }
+
+    // A node takes its place among the others.
+    fn put(&mut self, node: usize, new: ToyNode) -> Result<(), Refusal> {
+        if node > self.nodes.len() {
+            new.stop(self.rt);
+            return Err(Refusal::NotReady);
+        }
+        self.nodes.insert(node, new)?;
+        Ok(())
+    }
+}
