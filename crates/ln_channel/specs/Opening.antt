@@ -258,12 +258,19 @@ created_fault keys a m =
     else Some refusal.OutOfPlace
 
 -- it signs the funder's commitment 0
-abbrev pub funding_message : Signer → Agreement → FundingCreated → FundingSigned
-funding_message keys a m = record {
-  channel_id = id_of_channel m.funding_txid m.output_index;
-  signature = first_signature keys (fundee_end a m).dance;
+abbrev pub signed_message : Signer → List ℕ → Opened → FundingSigned
+signed_message keys channel o = record {
+  channel_id = channel;
+  signature = first_signature keys o.dance;
   records = [];
 }
+
+abbrev pub funding_message : Signer → Agreement → FundingCreated → FundingSigned
+funding_message keys a m = signed_message keys (id_of_channel m.funding_txid m.output_index) (fundee_end a m)
+
+-- an end of this channel, where the funder's signature is right
+abbrev pub signed_end : Signer → List ℕ → Opened → List ℕ → Result (Opened × FundingSigned) Refusal
+signed_end keys channel o signature = unless (first_fault keys o.dance signature) (o, signed_message keys channel o)
 
 -- the fundee has its end
 abbrev pub created_taken : Signer → Agreement → FundingCreated → Result (Opened × FundingSigned) Refusal

@@ -68,6 +68,11 @@ abbrev pub saved : Stage → Stage
 saved (stage.AwaitsSigned e) = stage.Funded e
 saved s = s
 
+-- by what a message is, if it is that
+abbrev pub if_any : {M : Type 0} → (M → Stage → Result Done Refusal) → Option M → Stage → Result Done Refusal
+if_any at (Some m) s = at m s
+if_any at None s = Err refusal.OutOfPlace
+
 abbrev pub opening_at : Signer → ConnectionState → Message → Stage → Result Done Refusal
 opening_at keys l (message.OpenChannel m) s = open_at keys l m s
 opening_at keys l (message.AcceptChannel m) s = accept_at keys l m s

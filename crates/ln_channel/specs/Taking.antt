@@ -180,6 +180,11 @@ is_viewed m = false
 
 -- ---- by message: those that aren't of a channel, and those that open one, are out of place
 
+-- the update that a message tells
+abbrev pub told_row : Option Update → End → Result Turn Refusal
+told_row (Some u) e = update_row u e
+told_row None e = Err refusal.OutOfPlace
+
 abbrev pub message_row : Signer → Message → End → Result Turn Refusal
 message_row keys (message.ChannelReady m) e = Ok (quiet (takes_ready m e))
 message_row keys (message.UpdateAddHtlc m) e = update_row (update.Add (add_of m)) e

@@ -15,6 +15,7 @@ ghost use Rattle.ln_channel.specs.Opening.{asked_with, opening_of};
 ghost use Rattle.ln_channel.specs.Opening.{first_point, first_dance, opened_by, first_signature, first_fault};
 ghost use Rattle.ln_channel.specs.Opening.{open_message, open_fault, typed, accept_message, open_taken, repeats};
 ghost use Rattle.ln_channel.specs.Opening.{accept_fault, funder_terms, funder_end, accept_taken, created_taken};
+ghost use Rattle.ln_channel.specs.Opening.{signed_end};
 
 use crate::config::{Config, FitConfig, FitSpec, OpenSpec};
 use ln_bytes::{Bytes, Record, value_of};
@@ -71,12 +72,20 @@ impl Model for Agreed {
 
 impl Agreed {
     ghost use Rattle.std.specs.Prelude.{◌≡◌};
+    ghost use Rattle.ln_bytes.specs.Same.{are_same};
 
     // The channel's id until its funding is named.
     pub(crate) fn temporary_id(&self) -> [u8; 32]
         ensures { result ≡ self.now.terms.open_channel.temporary_id }
     {
         self.terms.open_channel.temporary_id
+    }
+
+    // Whether a funding_created is of this channel.
+    fn is_meant(&self, created: &FundingCreated) -> bool
+        ensures { result ≡ are_same created.now.temporary_id self.now.terms.open_channel.temporary_id }
+    {
+        created.temporary_id == self.terms.open_channel.temporary_id
     }
 }
 
@@ -455,23 +464,35 @@ pub fn take_created<K: ChannelKeys>(
     alloc: Global,
     keys: &K,
     agreed: Agreed,
-    created: FundingCreated,
+    created: &FundingCreated,
 ) -> Result<(Opened, FundingSigned), Refusal>
-    ensures gives_its_row { Gives true (created_taken (K.signer keys.now) agreed created) result }
+    ensures gives_its_row { Gives true (created_taken (K.signer keys.now) agreed created.now) result }
     ensures refused { IfErr result (λ r. (r ≡ refusal.Memory) ⊎ (fails r ≡ true)) }
     ensures begun { IfOk result (λ r. HasBegun r.0) }
 {
-    let Agreed { fees, terms } = agreed;
-    if created.temporary_id != terms.open_channel.temporary_id {
-        drop(terms);
-        drop(created);
+    if !agreed.is_meant(created) {
+        drop(agreed);
         return Err(Refusal::OutOfPlace);
     }
+    let Agreed { fees, terms } = agreed;
     let channel = channel_id(&created.funding_txid, created.output_index);
     let end = opened_by(alloc, Role::Fundee, channel, fees, terms);
-    let checked = check_first(alloc, keys, &end.dance, &created.signature);
-    drop(created);
-    match checked {
+    sign_end(alloc, keys, channel, end, &created.signature)
+}
+
+// The fundee's end checks the funder's signature, and signs.
+fn sign_end<K: ChannelKeys>(
+    alloc: Global,
+    keys: &K,
+    channel: [u8; 32],
+    end: Opened,
+    signature: &[u8; 64],
+) -> Result<(Opened, FundingSigned), Refusal>
+    ensures gives_its_row { Gives true (signed_end (K.signer keys.now) channel end signature.now) result }
+    ensures refused { IfErr result (λ r. (r ≡ refusal.Memory) ⊎ (fails r ≡ true)) }
+    ensures kept { IfOk result (λ r. r.0 ≡ end) }
+{
+    match check_first(alloc, keys, &end.dance, signature) {
         Ok(()) => {}
         Err(refusal) => {
             drop(end);

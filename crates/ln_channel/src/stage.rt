@@ -3,7 +3,7 @@
 ghost use Rattle.std.specs.Prelude.{◌≡◌, true, false};
 ghost use Rattle.ln_channel.specs.Naming.{named, opens_agreed, opens_told};
 ghost use Rattle.ln_channel.specs.Failing.{fails};
-ghost use Rattle.ln_channel.specs.Step.{opening_at, open_at, accept_at, created_at, signed_at, saved_at};
+ghost use Rattle.ln_channel.specs.Step.{if_any, opening_at, open_at, accept_at, created_at, signed_at, saved_at};
 ghost use Rattle.ln_channel.specs.State.{is_saved, StaysUp, StageStands};
 ghost use Rattle.ln_channel.specs.End.{End, StandsFor};
 ghost use Rattle.ln_channel.specs.Taking.{is_viewed};
@@ -274,17 +274,26 @@ fn opened_by<K: ChannelKeys>(
         → Moves (is_viewed message) (opening_at
         (K.signer keys.now) connection message s) result connection connection s stage.new }
 {
-    match message {
-        Message::OpenChannel(open) => opened_by_open(alloc, keys, connection, stage, open),
-        Message::AcceptChannel(accept) => opened_by_accept(alloc, keys, connection, stage, accept),
+    match &message {
+        Message::OpenChannel(_) => opened_by_open(
+            alloc,
+            keys,
+            connection,
+            stage,
+            message.into_open(),
+        ),
+        Message::AcceptChannel(_) => opened_by_accept(
+            alloc,
+            keys,
+            connection,
+            stage,
+            message.into_accept(),
+        ),
         Message::FundingCreated(created) => opened_by_created(
             alloc, keys, connection, stage, created,
         ),
-        Message::FundingSigned(signed) => opened_by_signed(alloc, keys, connection, stage, &signed),
-        other => {
-            drop(other);
-            Err(Refusal::OutOfPlace)
-        }
+        Message::FundingSigned(signed) => opened_by_signed(alloc, keys, connection, stage, signed),
+        _ => Err(Refusal::OutOfPlace),
     }
 }
 
@@ -293,12 +302,16 @@ fn opened_by_open<K: ChannelKeys>(
     keys: &K,
     connection: ConnectionState,
     stage: &mut Stage,
-    message: OpenChannel,
+    message: Option<OpenChannel>,
 ) -> Result<Outbox, Refusal>
     requires { is_saved stage.old ≡ false }
     ensures { (s : Stage) → StageStands stage.old s
-        → Moves false (open_at (K.signer keys.now) connection message s) result connection connection s stage.new }
+        → Moves false (if_any (open_at (K.signer keys.now) connection) message s) result connection connection
+        s stage.new }
 {
+    let Some(message) = message else {
+        return Err(Refusal::OutOfPlace);
+    };
     match mem::replace(stage, Stage::Gone) {
         Stage::AwaitsOpen(config) => agree(alloc, keys, connection, stage, config, message),
         other => {
@@ -331,12 +344,16 @@ fn opened_by_accept<K: ChannelKeys>(
     keys: &K,
     connection: ConnectionState,
     stage: &mut Stage,
-    message: AcceptChannel,
+    message: Option<AcceptChannel>,
 ) -> Result<Outbox, Refusal>
     requires { is_saved stage.old ≡ false }
     ensures { (s : Stage) → StageStands stage.old s
-        → Moves false (accept_at (K.signer keys.now) connection message s) result connection connection s stage.new }
+        → Moves false (if_any (accept_at (K.signer keys.now) connection) message s) result connection connection
+        s stage.new }
 {
+    let Some(message) = message else {
+        return Err(Refusal::OutOfPlace);
+    };
     match mem::replace(stage, Stage::Gone) {
         Stage::AwaitsAccept(spec) => fund(alloc, keys, connection, stage, spec, message),
         other => {
@@ -369,11 +386,11 @@ fn opened_by_created<K: ChannelKeys>(
     keys: &K,
     connection: ConnectionState,
     stage: &mut Stage,
-    message: FundingCreated,
+    message: &FundingCreated,
 ) -> Result<Outbox, Refusal>
     requires { is_saved stage.old ≡ false }
     ensures { (s : Stage) → StageStands stage.old s
-        → Moves true (created_at (K.signer keys.now) connection message s) result connection connection s stage.new }
+        → Moves true (created_at (K.signer keys.now) connection message.now s) result connection connection s stage.new }
 {
     match mem::replace(stage, Stage::Gone) {
         Stage::AwaitsCreated(agreed) => sign(alloc, keys, connection, stage, agreed, message),
@@ -390,10 +407,10 @@ fn sign<K: ChannelKeys>(
     connection: ConnectionState,
     stage: &mut Stage,
     agreed: Agreed,
-    message: FundingCreated,
+    message: &FundingCreated,
 ) -> Result<Outbox, Refusal>
     requires { stage.old ≡ stages.Gone }
-    ensures { Becomes true connection (created_at (K.signer keys.now) connection message
+    ensures { Becomes true connection (created_at (K.signer keys.now) connection message.now
         (stages.AwaitsCreated agreed)) result
         stage.new }
 {
@@ -473,14 +490,11 @@ fn take_awaited<K: ChannelKeys>(
     ensures stays_up { StaysUp connection.old connection.new }
     ensures same_channel { channel.new.dance.channel ≡ channel.old.dance.channel }
 {
-    match message {
+    match &message {
         Message::ChannelReestablish(reestablish) => {
-            take_reestablish(alloc, keys, connection, channel, &reestablish)
+            take_reestablish(alloc, keys, connection, channel, reestablish)
         }
-        other => {
-            drop(other);
-            Err(Refusal::OutOfPlace)
-        }
+        _ => Err(Refusal::OutOfPlace),
     }
 }
 

@@ -8,7 +8,7 @@ use crate::output::Outbox;
 use byteorder::{BigEndian, ByteOrder};
 use ln_bytes::{Bytes, value_of};
 use ln_close::FeeAnswer;
-use ln_dance::{add_of, fail_of, fee_of, fulfil_of, malformed_of};
+use ln_dance::update_of;
 use ln_keys::ChannelKeys;
 use ln_log::{Side, Update};
 use ln_msgs::{ChannelReady, ClosingSigned, CommitmentSigned, Message, RevokeAndAck, Shutdown};
@@ -25,7 +25,7 @@ impl Channel {
     ghost use Rattle.ln_channel.specs.Taking.{takes_ready, late_fault, early_fault, update_row, takes};
     ghost use Rattle.ln_channel.specs.Taking.{accepts, signature_row, revokes, revocation_row};
     ghost use Rattle.ln_channel.specs.Taking.{shutdown_row, shuts_by_peer, answering};
-    ghost use Rattle.ln_channel.specs.Taking.{fee_row, message_row, taken};
+    ghost use Rattle.ln_channel.specs.Taking.{fee_row, told_row, message_row, taken};
 
     /// Takes `channel_ready` (BOLT 2, "The `channel_ready` Message"): a second one, or one behind the close, does
     /// nothing.
@@ -265,6 +265,17 @@ impl Channel {
         Ok(outbox)
     }
 
+    // Takes the update that a message tells; 21 where there is none.
+    fn take_told(&mut self, alloc: Global, update: Option<Update>) -> Result<Outbox, Refusal>
+        ensures makes { (e : End) → StandsFor self.old e → Makes (told_row update e) result self.old self.new }
+        ensures same_channel { self.new.dance.channel ≡ self.old.dance.channel }
+    {
+        match update {
+            Some(update) => self.take_update(alloc, update),
+            None => Err(Refusal::OutOfPlace),
+        }
+    }
+
     // By message: those that aren't of a channel, and those that open one, are out of place (21).
     fn take_message<K: ChannelKeys>(
         &mut self,
@@ -277,28 +288,21 @@ impl Channel {
             self.old self.new }
         ensures same_channel { self.new.dance.channel ≡ self.old.dance.channel }
     {
-        match message {
+        match &message {
             Message::ChannelReady(ready) => {
-                self.take_ready(&ready);
+                self.take_ready(ready);
                 Ok(Outbox::new(alloc))
             }
-            Message::UpdateAddHtlc(add) => self.take_update(alloc, Update::Add(add_of(&add))),
-            Message::UpdateFulfillHtlc(fulfil) => {
-                self.take_update(alloc, Update::Fulfil(fulfil_of(&fulfil)))
-            }
-            Message::UpdateFailHtlc(fail) => self.take_update(alloc, Update::Fail(fail_of(fail))),
-            Message::UpdateFailMalformedHtlc(malformed) => {
-                self.take_update(alloc, Update::Malformed(malformed_of(&malformed)))
-            }
-            Message::UpdateFee(fee) => self.take_update(alloc, Update::Fee(fee_of(&fee))),
-            Message::CommitmentSigned(signed) => self.take_signature(alloc, keys, &signed),
-            Message::RevokeAndAck(revocation) => self.take_revocation(alloc, keys, &revocation),
-            Message::Shutdown(shutdown) => self.take_shutdown(alloc, &shutdown),
-            Message::ClosingSigned(closing) => self.take_fee(alloc, keys, &closing),
-            other => {
-                drop(other);
-                Err(Refusal::OutOfPlace)
-            }
+            Message::CommitmentSigned(signed) => self.take_signature(alloc, keys, signed),
+            Message::RevokeAndAck(revocation) => self.take_revocation(alloc, keys, revocation),
+            Message::Shutdown(shutdown) => self.take_shutdown(alloc, shutdown),
+            Message::ClosingSigned(closing) => self.take_fee(alloc, keys, closing),
+            Message::UpdateAddHtlc(_)
+            | Message::UpdateFulfillHtlc(_)
+            | Message::UpdateFailHtlc(_)
+            | Message::UpdateFailMalformedHtlc(_)
+            | Message::UpdateFee(_) => self.take_told(alloc, update_of(message)),
+            _ => Err(Refusal::OutOfPlace),
         }
     }
 

@@ -77,6 +77,10 @@ malformed_of m = record { id = m.id; sha256_of_onion = m.sha256_of_onion; failur
 abbrev pub fee_of : UpdateFee → Fee
 fee_of m = record { feerate = m.feerate_per_kw }
 
+abbrev pub failed_of : Option UpdateFailHtlc → Option Update
+failed_of (Some m) = Some (update.Fail (fail_of m))
+failed_of None = None
+
 abbrev pub update_of : Message → Option Update
 update_of (message.UpdateAddHtlc m) = Some (update.Add (add_of m))
 update_of (message.UpdateFulfillHtlc m) = Some (update.Fulfil (fulfil_of m))

@@ -12,8 +12,8 @@ mod resume;
 pub use dance::{Dance, LAST_NUMBER, Later, Numbers, Peer};
 pub use laws::{revocation_is_learned, signature_is_accepted};
 pub use messages::{
-    add_message, add_of, fail_message, fail_of, fee_message, fee_of, fulfil_message, fulfil_of,
-    malformed_message, malformed_of, update_is_told_as_sent, update_message, update_of,
+    add_message, fail_message, fee_message, fulfil_message, malformed_message,
+    update_is_told_as_sent, update_message, update_of,
 };
 pub use reconnect::{
     dance_keeps_up, reestablish_is_served, revocation_is_sent_again, signature_is_sent_again,

@@ -4,7 +4,7 @@ ghost use Rattle.std.specs.Prelude.{◌≡◌, List, ℕ, Some, IfOk};
 ghost use Rattle.ln_log.specs.declared.update.Update.{Update};
 ghost use Rattle.ln_log.specs.Updates.{as_sent};
 ghost use Rattle.ln_dance.specs.Messages.{add_message, fulfil_message, fail_message, malformed_message, fee_message};
-ghost use Rattle.ln_dance.specs.Messages.{update_message, add_of, fulfil_of, fail_of, malformed_of, fee_of, update_of};
+ghost use Rattle.ln_dance.specs.Messages.{update_message, add_of, fulfil_of, malformed_of, fee_of, failed_of, update_of};
 
 use ln_bytes::Bytes;
 use ln_log::{Add, Fail, Fee, Fulfil, Malformed, Update};
@@ -109,8 +109,8 @@ pub fn update_message(
     })
 }
 
-/// The HTLC that a message offers, of no known origin. Takes no memory.
-pub fn add_of(message: &UpdateAddHtlc) -> Add
+// The HTLC that a message offers, of no known origin.
+fn add_of(message: &UpdateAddHtlc) -> Add
     ensures { result ≡ add_of message.now }
 {
     Add {
@@ -123,8 +123,8 @@ pub fn add_of(message: &UpdateAddHtlc) -> Add
     }
 }
 
-/// The fulfilment that a message tells. Takes no memory.
-pub fn fulfil_of(message: &UpdateFulfillHtlc) -> Fulfil
+// The fulfilment that a message tells.
+fn fulfil_of(message: &UpdateFulfillHtlc) -> Fulfil
     ensures { result ≡ fulfil_of message.now }
 {
     Fulfil {
@@ -133,18 +133,8 @@ pub fn fulfil_of(message: &UpdateFulfillHtlc) -> Fulfil
     }
 }
 
-/// The failure that a message tells, with the message's own bytes as its reason. Takes no memory.
-pub fn fail_of(message: UpdateFailHtlc) -> Fail
-    ensures { result ≡ fail_of message }
-{
-    Fail {
-        id: message.id,
-        reason: message.reason,
-    }
-}
-
-/// The failure by an unreadable onion that a message tells. Takes no memory.
-pub fn malformed_of(message: &UpdateFailMalformedHtlc) -> Malformed
+// The failure by an unreadable onion that a message tells.
+fn malformed_of(message: &UpdateFailMalformedHtlc) -> Malformed
     ensures { result ≡ malformed_of message.now }
 {
     Malformed {
@@ -154,8 +144,8 @@ pub fn malformed_of(message: &UpdateFailMalformedHtlc) -> Malformed
     }
 }
 
-/// The feerate that a message tells. Takes no memory.
-pub fn fee_of(message: &UpdateFee) -> Fee
+// The feerate that a message tells.
+fn fee_of(message: &UpdateFee) -> Fee
     ensures { result ≡ fee_of message.now }
 {
     Fee {
@@ -168,15 +158,26 @@ pub fn fee_of(message: &UpdateFee) -> Fee
 pub fn update_of(message: Message) -> Option<Update>
     ensures { result ≡ update_of message }
 {
-    match message {
-        Message::UpdateAddHtlc(message) => Some(Update::Add(add_of(&message))),
-        Message::UpdateFulfillHtlc(message) => Some(Update::Fulfil(fulfil_of(&message))),
-        Message::UpdateFailHtlc(message) => Some(Update::Fail(fail_of(message))),
-        Message::UpdateFailMalformedHtlc(message) => {
-            Some(Update::Malformed(malformed_of(&message)))
-        }
-        Message::UpdateFee(message) => Some(Update::Fee(fee_of(&message))),
+    match &message {
+        Message::UpdateAddHtlc(message) => Some(Update::Add(add_of(message))),
+        Message::UpdateFulfillHtlc(message) => Some(Update::Fulfil(fulfil_of(message))),
+        Message::UpdateFailHtlc(_) => failed_of(message.into_failure()),
+        Message::UpdateFailMalformedHtlc(message) => Some(Update::Malformed(malformed_of(message))),
+        Message::UpdateFee(message) => Some(Update::Fee(fee_of(message))),
         _ => None,
+    }
+}
+
+// The failure that a message tells, with the message's own bytes as its reason.
+fn failed_of(message: Option<UpdateFailHtlc>) -> Option<Update>
+    ensures { result ≡ failed_of message }
+{
+    match message {
+        Some(message) => Some(Update::Fail(Fail {
+            id: message.id,
+            reason: message.reason,
+        })),
+        None => None,
     }
 }
 

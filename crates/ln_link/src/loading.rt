@@ -31,7 +31,7 @@ use ln_close::{Closing, Fees};
 use ln_dance::Dance;
 use ln_keys::{ChannelKeys, Role};
 use ln_log::{Add, Balances, Counts, Coverage, Opening, Update, UpdateLog};
-use ln_msgs::{AcceptChannel, Incoming, Message, OpenChannel, decode};
+use ln_msgs::{AcceptChannel, Incoming, OpenChannel, decode};
 use ln_refusals::Refusal;
 use ln_store::{
     Agreement, Base, ChainPlace, ClosingFees, Commitments, Covered, Events, Flags, Forwards,
@@ -59,9 +59,12 @@ fn open_in(alloc: Global, payload: &[u8]) -> Result<OpenChannel, Refusal>
     ensures fails_for_memory_alone { IfErr result (λ r. r ≡ refusal.Memory) }
 {
     match said_by(alloc, 32, payload) {
-        Ok(Incoming::Known(Message::OpenChannel(open))) => Ok(open),
+        Ok(Incoming::Known(message)) => match message.into_open() {
+            Some(open) => Ok(open),
+            // (the payload is readable: it says no other message, and has no other fault)
+            None => unreachable!(),
+        },
         Err(Fault::Memory) => Err(Refusal::Memory),
-        // (the payload is readable: it has no other fault, and says no other message)
         _ => unreachable!(),
     }
 }
@@ -73,9 +76,12 @@ fn accept_in(alloc: Global, payload: &[u8]) -> Result<AcceptChannel, Refusal>
     ensures fails_for_memory_alone { IfErr result (λ r. r ≡ refusal.Memory) }
 {
     match said_by(alloc, 33, payload) {
-        Ok(Incoming::Known(Message::AcceptChannel(accept))) => Ok(accept),
+        Ok(Incoming::Known(message)) => match message.into_accept() {
+            Some(accept) => Ok(accept),
+            // (the payload is readable: it says no other message, and has no other fault)
+            None => unreachable!(),
+        },
         Err(Fault::Memory) => Err(Refusal::Memory),
-        // (the payload is readable: it has no other fault, and says no other message)
         _ => unreachable!(),
     }
 }

@@ -6,3 +6,4 @@ pub mod Forms
 pub mod Channel
 pub mod Features
 pub mod Reply
+pub mod Apart

@@ -49,8 +49,8 @@ macro_rules! for_each_message {
 ghost use Rattle.std.specs.Prelude.{◌≡◌, length, map, IfOk};
 
 /// A message of a known type (BOLT 1, "Lightning Message Format"). Behind its fields each carries the records
-/// of its TLV stream, also those of odd types that nobody knows.
-#[derive(Drop)]
+/// of its TLV stream, also those of odd types that nobody knows. It drops itself by hand, so that no crate above proves
+/// again how: elsewhere it is looked at, and taken apart by `into_open`, `into_accept` and `into_failure`.
 pub enum Message {
     /// Type 1.
     Warning(Warning),
@@ -94,6 +94,12 @@ pub enum Message {
     ChannelReestablish(ChannelReestablish),
 }
 
+impl Drop for Message {
+    fn drop(self) {
+        for_each_message!(self, m => drop(m))
+    }
+}
+
 /// What a message's bytes are.
 #[derive(Drop)]
 pub enum Incoming {
@@ -116,6 +122,7 @@ impl Message {
     ghost use Rattle.ln_msgs.specs.Messages.Items.{IsShownAs, AreItemsBy};
     ghost use Rattle.ln_msgs.specs.Messages.Forms.{IsFormBy};
     ghost use Rattle.ln_msgs.specs.Messages.Table.{form_of, name_of};
+    ghost use Rattle.ln_msgs.specs.Messages.Apart.{open_in, accept_in, failure_in};
 
     /// The type (BOLT 1, "Lightning Message Format"). Takes no memory.
     pub fn typ(&self) -> u16
@@ -143,6 +150,45 @@ impl Message {
         ensures { result.now ≡ (wire self.now).records }
     {
         for_each_message!(self, m => &m.records)
+    }
+
+    /// The `open_channel` that it is, if it is one. Takes no memory.
+    pub fn into_open(self) -> Option<OpenChannel>
+        ensures { result ≡ open_in self }
+    {
+        match self {
+            Message::OpenChannel(open) => Some(open),
+            other => {
+                drop(other);
+                None
+            }
+        }
+    }
+
+    /// The `accept_channel` that it is, if it is one. Takes no memory.
+    pub fn into_accept(self) -> Option<AcceptChannel>
+        ensures { result ≡ accept_in self }
+    {
+        match self {
+            Message::AcceptChannel(accept) => Some(accept),
+            other => {
+                drop(other);
+                None
+            }
+        }
+    }
+
+    /// The `update_fail_htlc` that it is, if it is one. Takes no memory.
+    pub fn into_failure(self) -> Option<UpdateFailHtlc>
+        ensures { result ≡ failure_in self }
+    {
+        match self {
+            Message::UpdateFailHtlc(failure) => Some(failure),
+            other => {
+                drop(other);
+                None
+            }
+        }
     }
 
     /// What the message's type has.
