@@ -4,7 +4,7 @@ use ln_channel::Command;
 use ln_hooks::{Hook, HookTable};
 use ln_keys::{ChannelKeys, ToyKeys, ToyOnion};
 use ln_msgs::channel_id;
-use ln_node::Node;
+use ln_node::{Node, Notice};
 use ln_refusals::Refusal;
 use ln_store::MemoryStore;
 use ln_toy_channels::{KEYS, POLICY, SHORT_IDS, TXIDS, fit_config, fit_spec};
@@ -18,6 +18,37 @@ use std::thread::Threads;
 pub(crate) type KeyedNode<K> = Node<K, MemoryStore, ToyOnion, Hook, HookTable>;
 
 pub(crate) type ToyNode = KeyedNode<ToyKeys>;
+
+/// What any test has a running node do: calls of `Node`. What is generic in it pays nothing for the types that a node
+/// reaches.
+pub(crate) trait Driven {
+    fn register<R: Wait>(&self, rt: &R, channel: usize, hook: Hook) -> Result<(), Hook>;
+
+    fn order<R: Wait>(&self, rt: &R, channel: usize, command: Command) -> Result<(), Command>;
+
+    fn notices<R: Wait>(&self, rt: &R, alloc: Global) -> Vec<(usize, Notice)>;
+
+    /// Whether the channel of this id takes payments.
+    fn is_usable<R: Wait>(&self, rt: &R, id: &[u8; 32]) -> bool;
+}
+
+impl Driven for ToyNode {
+    fn register<R: Wait>(&self, rt: &R, channel: usize, hook: Hook) -> Result<(), Hook> {
+        self.register_hook(rt, channel, hook)
+    }
+
+    fn order<R: Wait>(&self, rt: &R, channel: usize, command: Command) -> Result<(), Command> {
+        self.order(rt, channel, command)
+    }
+
+    fn notices<R: Wait>(&self, rt: &R, alloc: Global) -> Vec<(usize, Notice)> {
+        self.notices(rt, alloc)
+    }
+
+    fn is_usable<R: Wait>(&self, rt: &R, id: &[u8; 32]) -> bool {
+        self.book().lock(rt).usable(id)
+    }
+}
 
 /// How often a test looks, until it gives up.
 const TURNS: u64 = 1_000_000;
@@ -106,22 +137,17 @@ where
     node.stop(rt);
 }
 
-// Whether a node's channel takes payments.
-fn is_usable<R: Wait>(rt: &R, node: &ToyNode) -> bool {
-    let id = channel_id(&TXIDS[0], 0);
-    node.book().lock(rt).usable(&id)
-}
-
 /// Waits until the channel takes payments at both nodes, or at neither. False where that doesn't come about.
-pub(crate) fn wait_for_use<R: Wait>(rt: &R, a: &ToyNode, b: &ToyNode, usable: bool) -> bool {
-    let [id, _] = SHORT_IDS;
+pub(crate) fn wait_for_use<N: Driven, R: Wait>(rt: &R, a: &N, b: &N, usable: bool) -> bool {
+    let id = channel_id(&TXIDS[0], 0);
+    let [short_id, _] = SHORT_IDS;
     for turn in 0..TURNS {
-        if is_usable(rt, a) == usable && is_usable(rt, b) == usable {
+        if a.is_usable(rt, &id) == usable && b.is_usable(rt, &id) == usable {
             return true;
         }
         if usable && turn % 64 == 0 {
-            let_go(a.order(rt, 0, Command::Confirm(id)));
-            let_go(b.order(rt, 0, Command::Confirm(id)));
+            let_go(a.order(rt, 0, Command::Confirm(short_id)));
+            let_go(b.order(rt, 0, Command::Confirm(short_id)));
         }
         thread::yield_now();
     }

@@ -2,13 +2,12 @@
 
 use crate::client::{Client, failed};
 use crate::frames::ping_frame;
-use crate::pair::{KeyedNode, listen, stopped};
+use crate::pair::{Driven, KeyedNode, listen, stopped};
 use ln_channel::Command;
 use ln_hooks::{Call, ChannelEvent, Hook, Verdict};
 use ln_keys::{ChannelKeys, Signed, ToyKeys, ToyOnion, View};
-use ln_node::{Node, Notice, Table};
+use ln_node::{Node, Notice};
 use ln_refusals::Refusal;
-use ln_store::RecordStore;
 use ln_toy_channels::{KEYS, POLICY, SHORT_IDS, TXIDS};
 use std::alloc::Global;
 use std::net::{Net, SocketAddr, TcpListener, TcpStream};
@@ -100,22 +99,18 @@ where
     both(node, one, two)
 }
 
-/// A node that listens twice, as a test drives it. Which stores, hooks and tables it has is said in the tests alone:
-/// what is generic is proved quickly.
+/// A node that listens twice, as a test drives it.
 #[derive(Drop)]
-struct Trial<'a, K: ChannelKeys + Copy, S: Drop, H: Drop, T: Drop, R> {
+struct Trial<'a, N: Driven, R> {
     rt: &'a R,
     alloc: Global,
-    node: &'a Node<K, S, ToyOnion, H, T>,
+    node: &'a N,
     at: [SocketAddr; 2],
 }
 
-impl<K, S, H, T, R> Trial<'_, K, S, H, T, R>
+impl<N, R> Trial<'_, N, R>
 where
-    K: ChannelKeys + Copy + Send + 'static,
-    S: RecordStore + Drop + Send + 'static,
-    H: Drop + Send + 'static,
-    T: Table<H> + Drop + Send + 'static,
+    N: Driven,
     R: Net<Listener = TcpListener, Stream = TcpStream> + Wait,
 {
     // A client of one of its channels, which begins to open that.
@@ -125,8 +120,8 @@ where
     }
 
     // A channel of the node has this hook.
-    fn register(&self, channel: usize, hook: H) -> io::Result<()> {
-        match self.node.register_hook(self.rt, channel, hook) {
+    fn register(&self, channel: usize, hook: Hook) -> io::Result<()> {
+        match self.node.register(self.rt, channel, hook) {
             Ok(()) => Ok(()),
             Err(hook) => {
                 drop(hook);
@@ -178,7 +173,7 @@ where
 
     // A ping comes while a hook waits: the type of what answers it, what the hook had seen by then, and whether it
     // sees the flag that is set after that.
-    fn pings(&self, hook: H, flags: &Flags) -> io::Result<(u16, u64, bool)> {
+    fn pings(&self, hook: Hook, flags: &Flags) -> io::Result<(u16, u64, bool)> {
         self.register(0, hook)?;
         let mut client = self.client(TXIDS[0], self.at[0])?;
         self.commit(0, &mut client)?;
@@ -190,7 +185,7 @@ where
     }
 
     // The hooks of both channels are called: whether they meet.
-    fn hooks_meet(&self, one: H, two: H, flags: &Flags) -> io::Result<bool> {
+    fn hooks_meet(&self, one: Hook, two: Hook, flags: &Flags) -> io::Result<bool> {
         self.register(0, one)?;
         self.register(1, two)?;
         let mut first = self.client(TXIDS[0], self.at[0])?;
@@ -343,6 +338,24 @@ impl ChannelKeys for WaitingKeys {
 
     fn verify_close(&self, fee: u64, sig: &[u8; 64]) -> bool {
         self.toy.verify_close(fee, sig)
+    }
+}
+
+impl Driven for KeyedNode<WaitingKeys> {
+    fn register<R: Wait>(&self, rt: &R, channel: usize, hook: Hook) -> Result<(), Hook> {
+        self.register_hook(rt, channel, hook)
+    }
+
+    fn order<R: Wait>(&self, rt: &R, channel: usize, command: Command) -> Result<(), Command> {
+        self.order(rt, channel, command)
+    }
+
+    fn notices<R: Wait>(&self, rt: &R, alloc: Global) -> Vec<(usize, Notice)> {
+        self.notices(rt, alloc)
+    }
+
+    fn is_usable<R: Wait>(&self, rt: &R, id: &[u8; 32]) -> bool {
+        self.book().lock(rt).usable(id)
     }
 }
 

@@ -4,7 +4,7 @@
 ghost use Rattle.std.specs.Prelude.{◌≤◌};
 
 use super::{nodes, payment};
-use crate::pair::{ToyNode, loopback, stopped, wait_for_use};
+use crate::pair::{Driven, ToyNode, loopback, stopped, wait_for_use};
 use ln_channel::Command;
 use ln_hooks::{Call, ChannelEvent, FailureCode, Hook, HookTable, How, Verdict};
 use ln_keys::{ToyKeys, ToyOnion, sha256_32};
@@ -159,21 +159,88 @@ fn keeper(alloc: Global, outcomes: &Arc<Outcomes>) -> Result<Hook, Refusal> {
 /// The preimages of three payments.
 const PREIMAGES: [[u8; 32]; 3] = [[1; 32], [2; 32], [3; 32]];
 
-/// Tells the payee's book the height, and what it expects.
-fn expect<R: Wait>(rt: &R, payee: &ToyNode) -> Result<(), Refusal> {
-    let mut book = payee.book().lock(rt);
-    book.set_height(100);
-    for preimage in PREIMAGES {
-        book.expect(preimage, [8; 32], 70_000)?;
+/// What the test has a node do with payments that wait: calls of `Node`, and `look`.
+trait Holding: Driven {
+    /// Tells its book a height, and three payments to expect.
+    fn expect<R: Wait>(&self, rt: &R) -> Result<(), Refusal>;
+
+    fn held<R: Wait>(&self, rt: &R, alloc: Global) -> Result<Vec<(usize, HeldHtlc)>, Refusal>;
+
+    fn resume<R: Wait>(
+        &self,
+        rt: &R,
+        alloc: Global,
+        channel: usize,
+        number: u64,
+        verdict: Verdict,
+    ) -> Result<Mark, Refusal>;
+
+    fn look<R: Wait>(
+        &self,
+        rt: &R,
+        alloc: Global,
+        height: u32,
+        approved: &[[u8; 32]],
+    ) -> Result<(), Refusal>
+        requires { height ≤ 400000000 };
+
+    /// Connects its channel with the one that listens, if that does.
+    fn connect_with<R>(&self, rt: &R, listening: &Self) -> Result<(), Refusal>
+    where
+        R: Net<Stream = TcpStream> + Wait;
+}
+
+impl Holding for ToyNode {
+    fn expect<R: Wait>(&self, rt: &R) -> Result<(), Refusal> {
+        let mut book = self.book().lock(rt);
+        book.set_height(100);
+        for preimage in PREIMAGES {
+            book.expect(preimage, [8; 32], 70_000)?;
+        }
+        Ok(())
     }
-    Ok(())
+
+    fn held<R: Wait>(&self, rt: &R, alloc: Global) -> Result<Vec<(usize, HeldHtlc)>, Refusal> {
+        self.held(rt, alloc)
+    }
+
+    fn resume<R: Wait>(
+        &self,
+        rt: &R,
+        alloc: Global,
+        channel: usize,
+        number: u64,
+        verdict: Verdict,
+    ) -> Result<Mark, Refusal> {
+        self.resume(rt, alloc, channel, number, verdict)
+    }
+
+    fn look<R: Wait>(
+        &self,
+        rt: &R,
+        alloc: Global,
+        height: u32,
+        approved: &[[u8; 32]],
+    ) -> Result<(), Refusal> {
+        look(rt, alloc, self, height, approved)
+    }
+
+    fn connect_with<R>(&self, rt: &R, listening: &ToyNode) -> Result<(), Refusal>
+    where
+        R: Net<Stream = TcpStream> + Wait,
+    {
+        match listening.address(0) {
+            Some(address) => self.reconnect(rt, 0, address),
+            None => Ok(()),
+        }
+    }
 }
 
 /// What a node tells as held by its notices, behind others; and whether it has refused an order.
-fn receive<R: Wait>(
+fn receive<N: Holding, R: Wait>(
     rt: &R,
     alloc: Global,
-    node: &ToyNode,
+    node: &N,
     told: &mut Vec<(usize, u64)>,
 ) -> Result<bool, Refusal> {
     let mut refused = false;
@@ -190,11 +257,11 @@ fn receive<R: Wait>(
 /// The payer offers a payment and signs it, and the payee signs, until it has told one more as held and lists it. Where
 /// it was too early to sign, it does so again: one order at a time, so that no notice is lost behind more of them than
 /// are kept.
-fn offer<R: Wait>(
+fn offer<N: Holding, R: Wait>(
     rt: &R,
     alloc: Global,
-    payer: &ToyNode,
-    payee: &ToyNode,
+    payer: &N,
+    payee: &N,
     preimage: &[u8; 32],
     told: &mut Vec<(usize, u64)>,
 ) -> Result<(), Refusal> {
@@ -219,10 +286,10 @@ fn offer<R: Wait>(
 }
 
 /// Both sign what isn't signed, until this has become of the HTLCs. False where that doesn't come about.
-fn wait_for<R: Wait>(
+fn wait_for<N: Holding, R: Wait>(
     rt: &R,
-    payer: &ToyNode,
-    payee: &ToyNode,
+    payer: &N,
+    payee: &N,
     outcomes: &Outcomes,
     wanted: [u64; 3],
 ) -> bool {
@@ -240,7 +307,12 @@ fn wait_for<R: Wait>(
 }
 
 /// Whether these payments are what a node holds, in their order: each was told by the event of its id's number.
-fn holds<R: Wait>(rt: &R, alloc: Global, node: &ToyNode, ids: &[u64]) -> Result<bool, Refusal> {
+fn holds<N: Holding, R: Wait>(
+    rt: &R,
+    alloc: Global,
+    node: &N,
+    ids: &[u64],
+) -> Result<bool, Refusal> {
     let mut expected = Vec::new(alloc);
     for id in ids {
         expected.push((
@@ -259,10 +331,10 @@ fn holds<R: Wait>(rt: &R, alloc: Global, node: &ToyNode, ids: &[u64]) -> Result<
 }
 
 /// Whether a payment is resumed so that it is fulfilled.
-fn is_fulfilled<R: Wait>(
+fn is_fulfilled<N: Holding, R: Wait>(
     rt: &R,
     alloc: Global,
-    node: &ToyNode,
+    node: &N,
     channel: usize,
     number: u64,
     verdict: Verdict,
@@ -273,16 +345,16 @@ fn is_fulfilled<R: Wait>(
 
 /// Three payments are held, and told so; the first is resumed by this thread, and comes. What isn't held, or is being
 /// resumed, or is to be held again, is refused (40).
-fn begins<R: Wait + Abort>(
+fn begins<N: Holding, R: Wait + Abort>(
     rt: &R,
     alloc: Global,
-    payer: &ToyNode,
-    payee: &ToyNode,
+    payer: &N,
+    payee: &N,
     outcomes: &Arc<Outcomes>,
 ) -> Result<(), Refusal> {
-    let _ = payer.register_hook(rt, 0, keeper(alloc, outcomes)?);
-    let _ = payee.register_hook(rt, 0, interceptor(alloc)?);
-    expect(rt, payee)?;
+    let _ = payer.register(rt, 0, keeper(alloc, outcomes)?);
+    let _ = payee.register(rt, 0, interceptor(alloc)?);
+    payee.expect(rt)?;
     assert!(rt; wait_for_use(rt, payer, payee, true));
     let mut told = Vec::new(alloc);
     for preimage in &PREIMAGES {
@@ -308,27 +380,26 @@ fn begins<R: Wait + Abort>(
 
 /// The others are still held behind the restart. One is approved, and comes; one waits until its expiry is near, and
 /// fails.
-fn goes_on<R>(
+fn goes_on<N, R>(
     rt: &R,
     alloc: Global,
-    payer: &ToyNode,
-    payee: &ToyNode,
+    payer: &N,
+    payee: &N,
     outcomes: &Outcomes,
 ) -> Result<(), Refusal>
 where
+    N: Holding,
     R: Net<Listener = TcpListener, Stream = TcpStream> + Wait + Abort,
 {
     assert!(rt; holds(rt, alloc, payee, &[1, 2])?);
-    expect(rt, payee)?;
-    if let Some(address) = payee.address(0) {
-        payer.reconnect(rt, 0, address)?;
-    }
-    look(rt, alloc, payee, 100, &[sha256_32(&PREIMAGES[1])])?;
+    payee.expect(rt)?;
+    payer.connect_with(rt, payee)?;
+    payee.look(rt, alloc, 100, &[sha256_32(&PREIMAGES[1])])?;
     assert!(rt; holds(rt, alloc, payee, &[2])?);
     assert!(rt; wait_for(rt, payer, payee, outcomes, [FULFILLED, FULFILLED, 0]));
-    look(rt, alloc, payee, 379, &[])?;
+    payee.look(rt, alloc, 379, &[])?;
     assert!(rt; holds(rt, alloc, payee, &[2])?);
-    look(rt, alloc, payee, 380, &[])?;
+    payee.look(rt, alloc, 380, &[])?;
     assert!(rt; holds(rt, alloc, payee, &[])?);
     assert!(rt; wait_for(rt, payer, payee, outcomes, [FULFILLED, FULFILLED, TOO_SOON]));
     assert!(rt; holds(rt, alloc, payee, &[])?);
