@@ -5,7 +5,7 @@ HERE = os.path.dirname(os.path.abspath(__file__))
 sys.path.insert(0, os.path.dirname(HERE))
 import proved
 
-LIBRARIES = "ln_toy_channels ln_node ln_book ln_files ln_store ln_link ln_channel ln_hooks ln_keys ln_log ln_msgs ln_refusals ln_bytes"
+LIBRARIES = "ln_toy_channels ln_node ln_book ln_sqlite ln_store ln_link ln_channel ln_hooks ln_keys ln_log ln_msgs ln_refusals ln_bytes"
 TICKS = os.sysconf("SC_CLK_TCK")
 
 

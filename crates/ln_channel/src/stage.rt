@@ -390,7 +390,8 @@ fn opened_by_created<K: ChannelKeys>(
 ) -> Result<Outbox, Refusal>
     requires { is_saved stage.old ≡ false }
     ensures { (s : Stage) → StageStands stage.old s
-        → Moves true (created_at (K.signer keys.now) connection message.now s) result connection connection s stage.new }
+        → Moves true (created_at (K.signer keys.now) connection message.now s) result connection connection
+        s stage.new }
 {
     match mem::replace(stage, Stage::Gone) {
         Stage::AwaitsCreated(agreed) => sign(alloc, keys, connection, stage, agreed, message),

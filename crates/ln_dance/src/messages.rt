@@ -4,7 +4,8 @@ ghost use Rattle.std.specs.Prelude.{◌≡◌, List, ℕ, Some, IfOk};
 ghost use Rattle.ln_log.specs.declared.update.Update.{Update};
 ghost use Rattle.ln_log.specs.Updates.{as_sent};
 ghost use Rattle.ln_dance.specs.Messages.{add_message, fulfil_message, fail_message, malformed_message, fee_message};
-ghost use Rattle.ln_dance.specs.Messages.{update_message, add_of, fulfil_of, malformed_of, fee_of, failed_of, update_of};
+ghost use Rattle.ln_dance.specs.Messages.{update_message, add_of, fulfil_of, malformed_of, fee_of, failed_of};
+ghost use Rattle.ln_dance.specs.Messages.{update_of};
 
 use ln_bytes::Bytes;
 use ln_log::{Add, Fail, Fee, Fulfil, Malformed, Update};

@@ -3,7 +3,7 @@
 
 use ln_bytes::{Bytes, ShortId};
 use ln_channel::{Command, Config, FitConfig, FitSpec, OpenSpec, Points};
-use ln_files::FileRecords;
+use ln_sqlite::FileRecords;
 use ln_forward::Policy;
 use ln_hooks::{Call, ChannelEvent, Hook, HookTable, How, Verdict};
 use ln_keys::{ToyKeys, ToyOnion, sha256_32};

@@ -7,3 +7,4 @@ pub mod Shown
 pub mod Meaning
 pub mod Beginning
 pub mod Passing
+pub mod Sent

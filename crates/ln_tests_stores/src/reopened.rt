@@ -2,7 +2,7 @@
 
 use crate::players::{Player, both, commands, is_paid, meet, pays, signs};
 use ln_channel::Command;
-use ln_files::FileRecords;
+use ln_sqlite::FileRecords;
 use ln_keys::ToyKeys;
 use ln_link::Link;
 use ln_refusals::Refusal;

@@ -1,8 +1,8 @@
 //! A store over a file.
 
+use crate::sqlite_store::SqliteStore;
 use ln_bytes::Bytes;
 use ln_refusals::Refusal;
-use ln_sqlite::SqliteStore;
 use ln_store::RecordStore;
 use sqlite::{Connection, FileStore};
 use sqlite_std_file::File;

@@ -16,7 +16,7 @@ use Rattle.sqlite_disk.specs.contracts.start.Unknown as Unknown
 use Rattle.sqlite_disk.specs.contracts.start.UnknownStart.TheImpl as start
 use Rattle.sqlite_std_file.specs.contracts.host.Host as Host
 use Rattle.sqlite_std_file.specs.contracts.host.HostCalls.TheImpl as calls
-use Rattle.ln_files.specs.contracts.file_records.FileRecords.{the_row, the_type}
+use Rattle.ln_sqlite.specs.contracts.file_records.FileRecords.{the_row, the_type}
 
 host-send : IsSend Host.the_row
 host-send = search sendable depth 10
