@@ -22,8 +22,6 @@ pub(crate) type ToyNode = KeyedNode<ToyKeys>;
 /// What any test has a running node do: calls of `Node`. What is generic in it pays nothing for the types that a node
 /// reaches.
 pub(crate) trait Driven {
-    fn register<R: Wait>(&self, rt: &R, channel: usize, hook: Hook) -> Result<(), Hook>;
-
     fn order<R: Wait>(&self, rt: &R, channel: usize, command: Command) -> Result<(), Command>;
 
     fn notices<R: Wait>(&self, rt: &R, alloc: Global) -> Vec<(usize, Notice)>;
@@ -33,10 +31,6 @@ pub(crate) trait Driven {
 }
 
 impl Driven for ToyNode {
-    fn register<R: Wait>(&self, rt: &R, channel: usize, hook: Hook) -> Result<(), Hook> {
-        self.register_hook(rt, channel, hook)
-    }
-
     fn order<R: Wait>(&self, rt: &R, channel: usize, command: Command) -> Result<(), Command> {
         self.order(rt, channel, command)
     }
@@ -126,6 +120,26 @@ where
     let mut node: ToyNode = Node::new(alloc, ToyOnion, POLICY)?;
     let done = connect(rt, alloc, &mut node, keys, address);
     after(node, done)
+}
+
+/// A channel of a node has this hook. What holds a closure can't be asked for by a trait.
+pub(crate) fn register<K, R>(
+    rt: &R,
+    node: &KeyedNode<K>,
+    channel: usize,
+    hook: Hook,
+) -> Result<(), Refusal>
+where
+    K: ChannelKeys + Copy + Send + 'static,
+    R: Wait,
+{
+    match node.register_hook(rt, channel, hook) {
+        Ok(()) => Ok(()),
+        Err(hook) => {
+            drop(hook);
+            Err(Refusal::NotReady)
+        }
+    }
 }
 
 /// Stops a node. The checker shows here that hooks and tables may go to other threads: in a long function it gives up.

@@ -2,7 +2,7 @@
 
 use crate::client::{Client, failed};
 use crate::frames::ping_frame;
-use crate::pair::{Driven, KeyedNode, listen, stopped};
+use crate::pair::{Driven, KeyedNode, listen, register, stopped};
 use ln_channel::Command;
 use ln_hooks::{Call, ChannelEvent, Hook, Verdict};
 use ln_keys::{ChannelKeys, Signed, ToyKeys, ToyOnion, View};
@@ -119,17 +119,6 @@ where
         Client::connect(self.rt, self.alloc, keys, txid, address)
     }
 
-    // A channel of the node has this hook.
-    fn register(&self, channel: usize, hook: Hook) -> io::Result<()> {
-        match self.node.register(self.rt, channel, hook) {
-            Ok(()) => Ok(()),
-            Err(hook) => {
-                drop(hook);
-                Err(failed())
-            }
-        }
-    }
-
     // An end of the node does this.
     fn order(&self, channel: usize, command: Command) -> io::Result<()> {
         match self.node.order(self.rt, channel, command) {
@@ -171,10 +160,9 @@ where
         client.take(self.alloc, 1)
     }
 
-    // A ping comes while a hook waits: the type of what answers it, what the hook had seen by then, and whether it
+    // A ping comes while channel 0's hook waits: the type of what answers it, what the hook had seen by then, and whether it
     // sees the flag that is set after that.
-    fn pings(&self, hook: Hook, flags: &Flags) -> io::Result<(u16, u64, bool)> {
-        self.register(0, hook)?;
+    fn pings(&self, flags: &Flags) -> io::Result<(u16, u64, bool)> {
         let mut client = self.client(TXIDS[0], self.at[0])?;
         self.commit(0, &mut client)?;
         client.send(&ping_frame())?;
@@ -185,9 +173,7 @@ where
     }
 
     // The hooks of both channels are called: whether they meet.
-    fn hooks_meet(&self, one: Hook, two: Hook, flags: &Flags) -> io::Result<bool> {
-        self.register(0, one)?;
-        self.register(1, two)?;
+    fn hooks_meet(&self, flags: &Flags) -> io::Result<bool> {
         let mut first = self.client(TXIDS[0], self.at[0])?;
         self.commit(0, &mut first)?;
         let mut second = self.client(TXIDS[1], self.at[1])?;
@@ -243,14 +229,16 @@ fn ping_beside_hook(rt: HostRuntime) -> io::Result<()> {
     let flags = Arc::new(alloc, Flags::new())?;
     let hook = meeter(alloc, &flags, true)?;
     let (node, at) = listens(rt, alloc, [keys, keys])?;
+    let registered = register(&rt, &node, 0, hook).is_ok();
     let told = Trial {
         rt: &rt,
         alloc,
         node: &node,
         at,
     }
-    .pings(hook, &flags);
+    .pings(&flags);
     stopped(rt, node);
+    assert!(rt; registered);
     assert_eq!(rt; told?, (19, 0, true));
     Ok(())
 }
@@ -263,14 +251,16 @@ fn hooks_run_beside(rt: HostRuntime) -> io::Result<()> {
     let one = meeter(alloc, &flags, true)?;
     let two = meeter(alloc, &flags, false)?;
     let (node, at) = listens(rt, alloc, [keys, keys])?;
+    let registered = register(&rt, &node, 0, one).is_ok() && register(&rt, &node, 1, two).is_ok();
     let told = Trial {
         rt: &rt,
         alloc,
         node: &node,
         at,
     }
-    .hooks_meet(one, two, &flags);
+    .hooks_meet(&flags);
     stopped(rt, node);
+    assert!(rt; registered);
     assert!(rt; told?);
     Ok(())
 }
@@ -342,10 +332,6 @@ impl ChannelKeys for WaitingKeys {
 }
 
 impl Driven for KeyedNode<WaitingKeys> {
-    fn register<R: Wait>(&self, rt: &R, channel: usize, hook: Hook) -> Result<(), Hook> {
-        self.register_hook(rt, channel, hook)
-    }
-
     fn order<R: Wait>(&self, rt: &R, channel: usize, command: Command) -> Result<(), Command> {
         self.order(rt, channel, command)
     }

@@ -4,7 +4,7 @@
 ghost use Rattle.std.specs.Prelude.{◌≤◌};
 
 use super::{nodes, payment};
-use crate::pair::{Driven, ToyNode, loopback, stopped, wait_for_use};
+use crate::pair::{Driven, ToyNode, loopback, register, stopped, wait_for_use};
 use ln_channel::Command;
 use ln_hooks::{Call, ChannelEvent, FailureCode, Hook, HookTable, How, Verdict};
 use ln_keys::{ToyKeys, ToyOnion, sha256_32};
@@ -343,6 +343,18 @@ fn is_fulfilled<N: Holding, R: Wait>(
     Ok(matches!(mark, Mark::Fulfil(_)))
 }
 
+/// What becomes of the payer's payments is kept, and the payee's interceptor has them wait.
+fn hooked<R: Wait>(
+    rt: &R,
+    alloc: Global,
+    payer: &ToyNode,
+    payee: &ToyNode,
+    outcomes: &Arc<Outcomes>,
+) -> Result<(), Refusal> {
+    register(rt, payer, 0, keeper(alloc, outcomes)?)?;
+    register(rt, payee, 0, interceptor(alloc)?)
+}
+
 /// Three payments are held, and told so; the first is resumed by this thread, and comes. What isn't held, or is being
 /// resumed, or is to be held again, is refused (40).
 fn begins<N: Holding, R: Wait + Abort>(
@@ -350,10 +362,8 @@ fn begins<N: Holding, R: Wait + Abort>(
     alloc: Global,
     payer: &N,
     payee: &N,
-    outcomes: &Arc<Outcomes>,
+    outcomes: &Outcomes,
 ) -> Result<(), Refusal> {
-    let _ = payer.register(rt, 0, keeper(alloc, outcomes)?);
-    let _ = payee.register(rt, 0, interceptor(alloc)?);
     payee.expect(rt)?;
     assert!(rt; wait_for_use(rt, payer, payee, true));
     let mut told = Vec::new(alloc);
@@ -447,9 +457,11 @@ where
 {
     let outcomes = Outcomes::new(alloc)?;
     let (payee, payer) = nodes(rt, alloc)?;
+    let hooked = hooked(&rt, alloc, &payer, &payee, &outcomes);
     let begun = begins(&rt, alloc, &payer, &payee, &outcomes);
     let done = restarts(rt, alloc, &payer, payee, &outcomes);
     stopped(rt, payer);
+    hooked?;
     begun?;
     done
 }
