@@ -2,8 +2,8 @@
 use denote.RattleType.{RattleType}
 use denote.Param.Send.{IsSend, sendable}
 use denote.Param.SendFields.{declared_send, as_row_send}
-use Rattle.ln_sqlite.proofs.sqlite_store.SqliteStore.TheSendSync as store
-use Rattle.ln_sqlite.specs.contracts.sqlite_store.SqliteStore as SqliteStore
+use Rattle.ln_sqlite.proofs.sql_store.SqliteStore.TheSendSync as store
+use Rattle.ln_sqlite.specs.contracts.sql_store.SqliteStore as SqliteStore
 use Rattle.sqlite_trees.specs.declared.store.Store as Store
 use Rattle.sqlite_store.proofs.store.FileStore.TheSendSync as files
 use Rattle.sqlite_store.specs.contracts.store.FileStore as FileStore

@@ -1,6 +1,6 @@
 //! A store over a file.
 
-use crate::sqlite_store::SqliteStore;
+use crate::sql_store::SqliteStore;
 use ln_bytes::Bytes;
 use ln_refusals::Refusal;
 use ln_store::RecordStore;

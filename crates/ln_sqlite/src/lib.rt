@@ -6,9 +6,9 @@ mod compared;
 mod copies;
 mod file_records;
 mod rows;
-mod sqlite_store;
+mod sql_store;
 mod statements;
 mod table;
 
 pub use file_records::FileRecords;
-pub use sqlite_store::SqliteStore;
+pub use sql_store::SqliteStore;

@@ -4,7 +4,7 @@ use Rattle.sqlite.specs.State.{HasCleanDisk}
 use Rattle.ln_refusals.specs.declared.refusal.Refusal.TheVariants.{Memory}
 use Rattle.ln_sqlite.specs.Begins.{IsReady, Stays}
 use Rattle.ln_sqlite.proofs.Beginning.{begins, begins_empty, without_memory, changes, mid_schema}
-use Rattle.ln_sqlite.proofs.sqlite_store.begin.Goals as goal
+use Rattle.ln_sqlite.proofs.sql_store.begin.Goals as goal
 
 module _ (g : _) (c : goal.After-read_copies g) (clean : HasCleanDisk (state g.S.Store c.read_copies.new.connection))
     (live : IsTrue (state g.S.Store c.read_copies.new.connection).is_open) where

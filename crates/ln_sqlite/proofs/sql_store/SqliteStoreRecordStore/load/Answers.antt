@@ -2,7 +2,7 @@ use Rattle.std.proofs.Common.{subst}
 use Rattle.sqlite.specs.Held.{state}
 use Rattle.ln_sqlite.specs.Shown.{ShowsBody}
 use Rattle.ln_sqlite.proofs.Shown.{is_record}
-use Rattle.ln_sqlite.proofs.sqlite_store.SqliteStoreRecordStore.load.Goals as goal
+use Rattle.ln_sqlite.proofs.sql_store.SqliteStoreRecordStore.load.Goals as goal
 
 pub returns-clause-gives_what_the_table_has : goal.returns-clause-gives_what_the_table_has
 returns-clause-gives_what_the_table_has g c clean has =

@@ -3,7 +3,7 @@ use Rattle.std.specs.FinMap as map
 use Rattle.sqlite.specs.Held.{state}
 use Rattle.ln_sqlite.specs.Copies.{restored}
 use Rattle.ln_sqlite.specs.Holds.{IsTableOf}
-use Rattle.ln_sqlite.proofs.sqlite_store.SqliteStoreRecordStore.save.Goals as goal
+use Rattle.ln_sqlite.proofs.sql_store.SqliteStoreRecordStore.save.Goals as goal
 use Rattle.ln_sqlite.proofs.Maps.{is_there, undo}
 
 some : (o : Option (List ℕ)) (v : List ℕ) → o ≡ Some v → IsSome o
