@@ -160,8 +160,8 @@ where
         client.take(self.alloc, 1)
     }
 
-    // A ping comes while channel 0's hook waits: the type of what answers it, what the hook had seen by then, and whether it
-    // sees the flag that is set after that.
+    // A ping comes while channel 0's hook waits: the type of what answers it, what the hook had seen by then, and
+    // whether it sees the flag that is set after that.
     fn pings(&self, flags: &Flags) -> io::Result<(u16, u64, bool)> {
         let mut client = self.client(TXIDS[0], self.at[0])?;
         self.commit(0, &mut client)?;
