@@ -3,7 +3,6 @@
 
 use ln_bytes::{Bytes, ShortId};
 use ln_channel::{Command, Config, FitConfig, FitSpec, OpenSpec, Points};
-use ln_sqlite::FileRecords;
 use ln_forward::Policy;
 use ln_hooks::{Call, ChannelEvent, Hook, HookTable, How, Verdict};
 use ln_keys::{ToyKeys, ToyOnion, sha256_32};
@@ -11,6 +10,7 @@ use ln_log::Limits;
 use ln_msgs::Records;
 use ln_node::{Answer, ChannelState, ChannelSummary, Counters, Decided, Node, Signing, Table};
 use ln_refusals::Refusal;
+use ln_sqlite::FileRecords;
 use ln_store::RecordStore;
 use ln_trace::{LoggedStore, log_trace};
 use log::sink::Console;

@@ -2,10 +2,10 @@
 
 use crate::players::{Player, both, commands, is_paid, meet, pays, signs};
 use ln_channel::Command;
-use ln_sqlite::FileRecords;
 use ln_keys::ToyKeys;
 use ln_link::Link;
 use ln_refusals::Refusal;
+use ln_sqlite::FileRecords;
 use ln_store::RecordStore;
 use ln_tests_ends::{FUNDEE, FUNDER, Side, boxed, fundee_side, funder_side, played};
 use std::alloc::Global;
