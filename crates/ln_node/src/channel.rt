@@ -5,7 +5,7 @@ use crate::reader::Connections;
 use crate::seat::{PatientSeat, WakingSeat};
 use crate::signing::Signing;
 use crate::socket::Socket;
-use crate::start::{Stores, start_dispatcher, start_reader, start_worker};
+use crate::start::{Reading, Stores, start_dispatcher, start_reader, start_worker};
 use crate::wakeup::Wakeup;
 use crate::wakeups::ChannelWakeup;
 use ln_channel::Command;
@@ -35,16 +35,26 @@ pub(crate) type ReadSeat<W> = PatientSeat<ItemSeat<W>>;
 /// A channel of a node, whose records are in an `S`. What its threads have is no part of it.
 #[derive(Drop)]
 pub(crate) struct ChannelThreads<S: Drop, H: Drop, W: Drop> {
-    wakeup: Arc<ChannelWakeup>,
+    access: Access<W>,
     orders: Mutex<ItemSeat<W>>,
-    answers: Arc<OrderAnswers>,
     hooks: Mutex<WaitSend<Task<H>>>,
     bound: Option<SocketAddr>,
-    connections: Arc<Connections<W>>,
-    watch: Arc<Watch>,
     reader: JoinHandle<()>,
     worker: JoinHandle<S>,
     dispatcher: JoinHandle<()>,
+}
+
+/// What a channel's callers reach beside its seats.
+#[derive(Drop)]
+pub(crate) struct Access<W: Drop> {
+    /// Its wake-up.
+    pub(crate) wakeup: Arc<ChannelWakeup>,
+    /// Where its orders are answered.
+    pub(crate) answers: Arc<OrderAnswers>,
+    /// Its connections.
+    pub(crate) connections: Arc<Connections<W>>,
+    /// Its summary.
+    pub(crate) watch: Arc<Watch>,
 }
 
 /// What a new channel has of its node.
@@ -56,16 +66,10 @@ pub(crate) struct Shares<B: Drop, W: Drop> {
     pub(crate) book: B,
     /// And as its dispatcher does.
     pub(crate) decisions: B,
-    /// Where its orders are answered.
-    pub(crate) answers: Arc<OrderAnswers>,
-    /// And as its worker has that.
+    /// Where its worker answers orders.
     pub(crate) replies: OrderReplies,
-    /// Its wake-up.
-    pub(crate) wakeup: Arc<ChannelWakeup>,
-    /// Its connections.
-    pub(crate) connections: Arc<Connections<W>>,
-    /// Its summary.
-    pub(crate) watch: Arc<Watch>,
+    /// What its callers reach.
+    pub(crate) access: Access<W>,
 }
 
 /// What a new channel is made of.
@@ -143,30 +147,30 @@ where
         let mut seat = self.orders.lock(rt);
         match order(rt, &mut seat, command) {
             // The seat is held until the order is counted, so orders have their numbers in the relay's order.
-            Ok(()) => Ok(self.answers.put(rt)),
+            Ok(()) => Ok(self.access.answers.put(rt)),
             Err(back) => Err(back),
         }
     }
 
     /// Where its orders are answered.
     pub(crate) fn answers(&self) -> &OrderAnswers {
-        &self.answers
+        &self.access.answers
     }
 
     /// It signs so from now on.
     pub(crate) fn set_signing(&self, signing: Signing) {
-        self.answers.set_signing(signing);
+        self.access.answers.set_signing(signing);
         self.wake();
     }
 
     /// Wakes its worker.
     pub(crate) fn wake(&self) {
-        self.wakeup.wakeup.ring();
+        self.access.wakeup.wakeup.ring();
     }
 
     /// Which channel it is, once both have signed its opening.
     pub(crate) fn id(&self) -> Option<&ChannelId> {
-        self.wakeup.id.get()
+        self.access.wakeup.id.get()
     }
 
     /// Hands a hook to its dispatcher; a full relay hands it back.
@@ -177,8 +181,8 @@ where
 
     /// Shuts its connection. A reader that waits for the next one looks again.
     pub(crate) fn shut<R: Wait>(&self, rt: &R) {
-        self.connections.shut(rt);
-        self.connections.wake();
+        self.access.connections.shut(rt);
+        self.access.connections.wake();
     }
 
     /// Shuts its connection, and ends an accept that waits by a connection of the node's own.
@@ -194,7 +198,7 @@ where
 
     /// Its summary.
     pub(crate) fn watch(&self) -> &Watch {
-        &self.watch
+        &self.access.watch
     }
 
     /// Where it listens.
@@ -204,20 +208,17 @@ where
 
     /// Shuts its connection, and has this one read next.
     pub(crate) fn reconnect<R: Wait>(&self, rt: &R, stream: W) {
-        self.connections.shut(rt);
-        self.connections.follow(rt, stream);
+        self.access.connections.shut(rt);
+        self.access.connections.follow(rt, stream);
     }
 
     /// Joins its threads, the reader first: it is shut. Gives its store back.
     pub(crate) fn end<R: Threads + Wait>(self, rt: &R) -> S {
         let ChannelThreads {
-            wakeup: _,
+            access: _,
             orders,
-            answers: _,
             hooks,
             bound: _,
-            connections: _,
-            watch: _,
             reader,
             worker,
             dispatcher,
@@ -296,7 +297,7 @@ where
     L: OpenListener<Stream = W> + Drop + Send + 'static,
     R: Threads + Wait + Copy + Send + 'static,
 {
-    let theirs = Arc::try_clone(&parts.shares.connections)?;
+    let connections = Arc::try_clone(&parts.shares.access.connections)?;
     let Seats {
         first,
         orders,
@@ -304,7 +305,7 @@ where
         events,
         hooks,
         tasks,
-    } = new_seats::<H, W>(alloc, &parts.shares.wakeup)?;
+    } = new_seats::<H, W>(alloc, &parts.shares.access.wakeup)?;
     let Parts {
         end,
         shares,
@@ -316,12 +317,14 @@ where
         own_init,
         book,
         decisions,
-        answers,
         replies,
-        wakeup,
-        connections,
-        watch,
+        access,
     } = shares;
+    let reading = Reading {
+        listener,
+        seat: first,
+        connections,
+    };
     let work = WorkerLoop {
         worker: Worker::new(end),
         items,
@@ -348,20 +351,16 @@ where
         stop_dispatcher(&rt, hooks, dispatcher);
         return Err(AllocError);
     };
-    let Some(reader) = start_reader::<ReadSeat<W>, L, W, R>(rt, alloc, listener, first, theirs)
-    else {
+    let Some(reader) = start_reader::<ReadSeat<W>, L, W, R>(rt, alloc, reading) else {
         drop(stop_worker(&rt, orders, worker));
         stop_dispatcher(&rt, hooks, dispatcher);
         return Err(AllocError);
     };
     Ok(ChannelThreads {
-        wakeup,
+        access,
         orders: Mutex::new(orders),
-        answers,
         hooks: Mutex::new(hooks),
         bound,
-        connections,
-        watch,
         reader,
         worker,
         dispatcher,

@@ -2,7 +2,7 @@
 
 use crate::asking::{OrderAnswers, OrderReplies};
 use crate::book::{Common, NodeBook, SharedBook};
-use crate::channel::{ChannelThreads, Parts, Shares, start};
+use crate::channel::{Access, ChannelThreads, Parts, Shares, start};
 use crate::notices::Notices;
 use crate::observed::ObservedStore;
 use crate::observer::{Monitor, Observer};
@@ -277,11 +277,13 @@ where
             own_init,
             decisions,
             book,
-            answers,
             replies,
-            wakeup,
-            connections,
-            watch,
+            access: Access {
+                wakeup,
+                answers,
+                connections,
+                watch,
+            },
         })
     }
 
@@ -364,7 +366,7 @@ where
             return Err(Refusal::Io);
         };
         let shares = self.shares(&rt, alloc, &end)?;
-        shares.connections.follow(&rt, stream);
+        shares.access.connections.follow(&rt, stream);
         self.start::<R::Listener, R>(rt, alloc, shares, end, table, None, None)
     }
 

@@ -52,13 +52,22 @@ where
     worker.end.into_store()
 }
 
+/// What the thread of a channel's connections has.
+#[derive(Drop)]
+pub(crate) struct Reading<S: Drop, L: Drop, W: Drop> {
+    /// Where connections come to, where they don't go out.
+    pub(crate) listener: Option<L>,
+    /// Where it hands on what it reads.
+    pub(crate) seat: S,
+    /// What it reads.
+    pub(crate) connections: Arc<Connections<W>>,
+}
+
 /// Starts the thread of a channel's connections.
 pub(crate) fn start_reader<S, L, W, R>(
     rt: R,
     alloc: Global,
-    listener: Option<L>,
-    seat: S,
-    connections: Arc<Connections<W>>,
+    reading: Reading<S, L, W>,
 ) -> Option<JoinHandle<()>>
 where
     S: Sends<Item<Socket<W>>> + Drop + Send + 'static,
@@ -66,6 +75,11 @@ where
     W: Read + Write + OpenStream + Drop + Send + 'static,
     R: Threads + Wait + Copy + Send + 'static,
 {
+    let Reading {
+        listener,
+        seat,
+        connections,
+    } = reading;
     thread::spawn(
         &rt,
         move || drop(connections.read_all(&rt, alloc, listener, seat)),
