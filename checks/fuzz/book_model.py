@@ -1,5 +1,5 @@
 """A plain model of a node's book of forwarded payments, written from the rules of docs/PROTOCOL.md and the definitions of
-ln_book_tables, ln_book_recovery and ln_book. checks/fuzz/model.py has one for each node; `Book.call(line)` gives what
+ln_book_tables and ln_book. checks/fuzz/model.py has one for each node; `Book.call(line)` gives what
 crates/ln_book_calls has to print for a line.
 
 A channel is any name. A mark, a command, a way and an outcome are tuples that begin with their kind:

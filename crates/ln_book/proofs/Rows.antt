@@ -28,13 +28,13 @@ use Rattle.ln_book_tables.specs.declared.entry.Out.TheVariants as out
 use Rattle.ln_book_tables.specs.declared.entry.PendingCommand.{PendingCommand}
 use Rattle.ln_book_tables.specs.declared.entry.PendingCommand.TheVariants as pending_command
 use Rattle.ln_book_tables.specs.declared.entry.Entry.TheVariants as entry
-use Rattle.ln_book_recovery.specs.declared.leg.Leg.{Leg}
+use Rattle.ln_book.specs.declared.leg.Leg.{Leg}
 use Rattle.ln_book_tables.specs.Replay.{Table, no_table, queued_of, resumed_of, after}
 use Rattle.ln_book_tables.specs.Held.{all_held}
-use Rattle.ln_book_recovery.specs.Kept.{own_updates, has_own_removal}
-use Rattle.ln_book_recovery.specs.Rebuild.{ChannelSnapshot, no_event, legs_offered, legs_resolved, decided_in}
-use Rattle.ln_book_recovery.specs.Rebuild.{htlc_left, rebuilt}
-use Rattle.ln_book_recovery.specs.Rebuild.{rebuilt_htlcs}
+use Rattle.ln_book.specs.Kept.{own_updates, has_own_removal}
+use Rattle.ln_book.specs.Rebuild.{ChannelSnapshot, no_event, legs_offered, legs_resolved, decided_in}
+use Rattle.ln_book.specs.Rebuild.{htlc_left, rebuilt}
+use Rattle.ln_book.specs.Rebuild.{rebuilt_htlcs}
 use Rattle.ln_book.specs.Commands.{Services, first_command}
 use Rattle.ln_book.specs.Marks.{resumption}
 

@@ -1,3 +1,14 @@
+pub mod Value
+pub mod Saying
+pub mod Uses
+pub mod Answers
+pub mod Owing
+pub mod Snapshots
+pub mod Seen
+pub mod Handles
+pub mod Kept
+pub mod Rebuild
+pub mod Told
 pub mod Commands
 pub mod Legs
 pub mod Marks

@@ -3,9 +3,11 @@
 ghost use Rattle.std.specs.Prelude.{◌≡◌, IfOk, IfErr};
 
 use crate::commands::first_command;
+use crate::kept::{Kept, kept_state_of};
+use crate::leg::ChannelSnapshot;
 use crate::legs::other_channel;
 use crate::marks::{mark_by, mark_of, offer_of};
-use ln_book_recovery::{ChannelSnapshot, Kept, kept_state_of, rebuilt_htlcs};
+use crate::rebuild::rebuilt_htlcs;
 use ln_book_tables::{
     Decided, Entry, HeldHtlc, Invoice, KeptState, Key, Offer, Out, OutgoingChannel, PendingCommand,
     Resumed, Tables,
@@ -422,7 +424,7 @@ impl Book {
     ghost use Rattle.ln_book_tables.specs.declared.entry.Entry.TheVariants as entry;
     ghost use Rattle.ln_history.specs.History.{with_entry};
     ghost use Rattle.ln_book_tables.specs.Replay.{table_of};
-    ghost use Rattle.ln_book_recovery.specs.Kept.{kept_state_of};
+    ghost use Rattle.ln_book.specs.Kept.{kept_state_of};
 
     /// A channel's connection was lost, or the channel was loaded from its record; of one that has halted this is
     /// called behind the load alone. Nothing is out in it any more. A command that the channel has kept was taken; what
@@ -458,7 +460,7 @@ impl Book {
     ghost use Rattle.std.specs.Prelude.{◌≡◌, OnOk, OnErr, IfErr};
     ghost use Rattle.ln_history.specs.History.{begun_with};
     ghost use Rattle.ln_book_tables.specs.Replay.{table_of};
-    ghost use Rattle.ln_book_recovery.specs.Rebuild.{rebuilt};
+    ghost use Rattle.ln_book.specs.Rebuild.{rebuilt};
 
     /// Begins anew with what these channels have, those of the node in the order of their numbers: each is there as it
     /// was loaded, without what no signature covered. Settings stay; nothing is queued, and nothing is out. An HTLC of

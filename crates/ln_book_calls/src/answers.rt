@@ -1,6 +1,6 @@
 //! What a channel answers behind a lost connection.
 
-use ln_book_recovery::Kept;
+use ln_book::Kept;
 use ln_log::Mark;
 
 /// The next own id, the HTLCs of which a removal was kept, and how many events are decided.

@@ -3,8 +3,7 @@
 use crate::ends::{Ends, Shown, Signing};
 use crate::onion::onion_of;
 use crate::show::show_command;
-use ln_book::Book;
-use ln_book_recovery::{ChannelSnapshot, Kept};
+use ln_book::{Book, ChannelSnapshot, Kept};
 use ln_channel::Command;
 use ln_hooks::Verdict;
 use ln_keys::{ToyOnion, sha256_32};

@@ -2,9 +2,9 @@
 use Rattle.std.proofs.Common.{◌≡◌, ◌++◌, ◌∷◌, [], ℕ, ◌+◌, ◌<◌, List, length, take, refl, sym, ap, ◌∙◌, append-nil}
 use Rattle.std.proofs.Math.ListN.{get_or}
 use Rattle.std.proofs.lemmas.List.{take_more, append_assoc}
-use Rattle.ln_book_recovery.specs.Rebuild.{ChannelSnapshot}
+use Rattle.ln_book.specs.Rebuild.{ChannelSnapshot}
 use Rattle.ln_node.specs.declared.stored.Loaded.{Loaded}
-use Rattle.ln_switch.specs.Snapshots.{snapshot_by}
+use Rattle.ln_book.specs.Snapshots.{snapshot_by}
 use Rattle.ln_node.specs.Stored.{loaded_end, channel_snapshots_of}
 
 module _ {K S T : Type 0} where

@@ -7,8 +7,8 @@ use Rattle.ln_channel.specs.State.{State}
 use Rattle.ln_store.specs.Store.{Records}
 use Rattle.ln_store.specs.Record.{record_at}
 use Rattle.ln_link.specs.Loading.{Loads}
-use Rattle.ln_book_recovery.specs.Rebuild.{ChannelSnapshot, rebuilt}
-use Rattle.ln_switch.specs.Snapshots.{snapshot_by}
+use Rattle.ln_book.specs.Rebuild.{ChannelSnapshot, rebuilt}
+use Rattle.ln_book.specs.Snapshots.{snapshot_by}
 use Rattle.ln_book_tables.specs.declared.entry.Entry.{Entry}
 use Rattle.ln_history.specs.History.{History, begun_with}
 use Rattle.ln_book_tables.specs.Replay.{Table, no_table}

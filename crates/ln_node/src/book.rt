@@ -1,13 +1,13 @@
 //! The book of a node, as the threads of its channels reach it.
 
 ghost use Rattle.std.specs.Prelude.{◌≡◌, [], IfOk};
-ghost use Rattle.ln_switch.specs.Handles.{policy_of};
+ghost use Rattle.ln_book.specs.Handles.{policy_of};
 
 use crate::notices::Notices;
 use crate::observer::{Monitor, Observer};
 use crate::opening::NodeLink;
 use crate::wakeups::{ChannelWakeup, Wakeups};
-use ln_book::Book;
+use ln_book::{Book, BookHandle, Use, use_of, waits};
 use ln_channel::Command;
 use ln_forward::Policy;
 use ln_hooks::{ChannelEvent, Verdict};
@@ -16,7 +16,6 @@ use ln_log::{ChannelId, Mark};
 use ln_node_loops::{Books, Notice, ReadsEnds};
 use ln_refusals::Refusal;
 use ln_store::RecordStore;
-use ln_switch::{BookHandle, Use, use_of, waits};
 use ln_watch::Watch;
 use std::alloc::{AllocError, Global};
 use std::snapshot::Snapshot;
@@ -124,7 +123,7 @@ fn wake<R: Wait>(rt: &R, own: &ChannelWakeup, wakeups: &Wakeups, other: Option<C
 }
 
 impl<O: Onion + Copy + Drop> SharedBook<O> {
-    ghost use Rattle.ln_switch.specs.Handles.{said};
+    ghost use Rattle.ln_book.specs.Handles.{said};
     ghost use Rattle.ln_node.specs.Books.{begun_at, begun_in};
 
     // The book, for a thread of the channel of the node that has this wake-up; its summary is this, and this watches
@@ -195,7 +194,7 @@ impl<O: Onion + Copy + Drop> SharedBook<O> {
 }
 
 impl<O: Onion + Copy + Drop> Books for SharedBook<O> {
-    ghost use Rattle.ln_switch.specs.Handles as handles;
+    ghost use Rattle.ln_book.specs.Handles as handles;
 
     ghost said = { λ b. handles.said b.handle };
 
@@ -261,8 +260,8 @@ impl<O: Onion + Copy + Drop> Books for SharedBook<O> {
 
 impl<O: Onion + Copy + Drop> SharedBook<O> {
     ghost use Rattle.std.specs.Prelude.{◌++◌, ◌∷◌, OnOk, OnErr};
-    ghost use Rattle.ln_switch.specs.Handles.{said};
-    ghost use Rattle.ln_switch.specs.Saying.{uses};
+    ghost use Rattle.ln_book.specs.Handles.{said};
+    ghost use Rattle.ln_book.specs.Saying.{uses};
 
     // Tells the book which payments the channel's end takes, unless it was told last.
     fn notify_use<R: Wait>(&mut self, rt: &R, used: Use) -> Result<(), Refusal>

@@ -159,7 +159,7 @@ where
     W: Read + Write + OpenStream + Drop + Send + 'static,
 {
     ghost use Rattle.std.specs.Prelude.{◌≡◌, [], IfOk};
-    ghost use Rattle.ln_switch.specs.Handles as handles;
+    ghost use Rattle.ln_book.specs.Handles as handles;
     ghost use Rattle.ln_node.specs.Books.{begun_at};
     ghost use Rattle.ln_node.specs.Node.{policy_of, begun_of};
     ghost use Rattle.ln_node.specs.Stored.{BeginsWithAll};

@@ -235,7 +235,7 @@ fn observed(
 
 impl<K: ChannelKeys + Copy, S: RecordStore + Drop> End for NodeLink<K, S> {
     ghost use Rattle.ln_channel.specs.Pending.{pending_at};
-    ghost use Rattle.ln_switch.specs.Seen.{seen_of};
+    ghost use Rattle.ln_book.specs.Seen.{seen_of};
     ghost use Rattle.ln_node_loops.specs.Signing as signing;
     ghost use Rattle.ln_node.specs.Opening.{Held, acts};
 

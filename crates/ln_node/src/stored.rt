@@ -3,21 +3,19 @@
 ghost use Rattle.std.specs.Prelude.{◌≡◌, IfOk};
 ghost use Rattle.ln_history.specs.History.{begun_with};
 ghost use Rattle.ln_book_tables.specs.Replay.{no_table};
-ghost use Rattle.ln_book_recovery.specs.Rebuild.{rebuilt};
+ghost use Rattle.ln_book.specs.Rebuild.{rebuilt};
 ghost use Rattle.ln_node.specs.Stored.{first_record, ComesFrom, IsLoaded, AreLoaded, channel_snapshots_of};
 
 use crate::observed::ObservedStore;
 use crate::observer::{Monitor, Observer};
 use crate::opening::NodeLink;
-use ln_book::Book;
-use ln_book_recovery::ChannelSnapshot;
+use ln_book::{Book, ChannelSnapshot, read_end};
 use ln_bytes::Bytes;
 use ln_keys::ChannelKeys;
 use ln_link::Link;
 use ln_node_loops::SavedLink;
 use ln_refusals::Refusal;
 use ln_store::RecordStore;
-use ln_switch::read_end;
 use std::alloc::Global;
 use std::net::SocketAddr;
 use std::sync::Arc;

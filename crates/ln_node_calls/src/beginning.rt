@@ -5,10 +5,11 @@ use crate::row::{Row, end_of, gauge_of};
 use ln_channel::{FitConfig, FitSpec};
 use ln_keys::{ToyKeys, ToyOnion};
 use ln_node::{Node, Stored};
-use ln_node_faults::{
-    A0, B0, B1, C0, ENDS, End, FailingRecords, Gauge, Gauged, OpenProxy, Watch, config, loopback,
-};
 use ln_refusals::Refusal;
+use ln_tests_ends::{
+    A0, B0, B1, C0, ENDS, End, FailingRecords, Gauge, Gauged, OpenProxy, Watch, loopback,
+    row_config,
+};
 use ln_toy_channels::{POLICY, fit_spec};
 use std::alloc::Global;
 use std::mem;
@@ -25,7 +26,7 @@ fn listening(
 ) -> Result<(FitConfig, FailingRecords, Watch), Refusal> {
     let table = Watch::gauged(alloc, gauge)?;
     let store = FailingRecords::gauged(alloc, gauge)?;
-    let config = config(alloc, accepted)?;
+    let config = row_config(alloc, accepted)?;
     Ok((config, store, table))
 }
 

@@ -29,7 +29,7 @@
 //! | `restart A`, .. | the node starts again from its stores |
 //! | `fee E RATE`, `shut E` | E changes the feerate; it is to shut down |
 //! | `looks N`, `stop` | so much time passes; the nodes stop |
-//! | `wait E WORD COUNT` | E counts so: gauge.rt of ln_node_faults; `usable`, `held`, `lost` connections, `signed` |
+//! | `wait E WORD COUNT` | E counts so: gauge.rt of ln_tests_ends; `usable`, `held`, `lost` connections, `signed` |
 //! | | .. what E's summary or its node's counters tell is so: watch.rt |
 //! | `shows E WORD` | by its summary E is so far: see watch.rt |
 //! | `trace NODE N` | from now on N steps of the node are kept at once |

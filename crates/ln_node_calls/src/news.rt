@@ -1,7 +1,7 @@
 //! What nodes tell of their channels, as gauges count it.
 
 use ln_node::{Notice, Step};
-use ln_node_faults::Gauge;
+use ln_tests_ends::Gauge;
 
 // Whether a message's text is that of `update_add_htlc`.
 fn is_add(text: &str) -> bool {

@@ -7,10 +7,10 @@ use ln_channel::Command;
 use ln_hooks::Verdict;
 use ln_msgs::channel_id;
 use ln_node::{Signing, Ticket};
-use ln_node_faults::{
+use ln_refusals::Refusal;
+use ln_tests_ends::{
     A0, B0, B1, C0, ENDS, End, Gauge, OpenProxy, counted, is_refused, order, state_word, value_of,
 };
-use ln_refusals::Refusal;
 use std::alloc::{AllocError, Global};
 use std::net::{Net, TcpListener, TcpStream};
 use std::sync::atomic::{AtomicU64, Ordering};

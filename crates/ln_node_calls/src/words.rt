@@ -4,8 +4,8 @@ use ln_bytes::Bytes;
 use ln_channel::Command;
 use ln_hooks::FailureCode;
 use ln_node::Signing;
-use ln_node_faults::{A0, B0, B1, C0, CONTINUE, End, HOLD};
 use ln_refusals::Refusal;
+use ln_tests_ends::{A0, B0, B1, C0, CONTINUE, End, HOLD};
 use std::alloc::Global;
 
 /// A word that is none.

@@ -7,14 +7,14 @@ use Rattle.ln_refusals.specs.declared.refusal.Refusal.{Refusal}
 use Rattle.ln_hooks.specs.declared.event.ChannelEvent.{ChannelEvent}
 use Rattle.ln_channel.specs.declared.command.Command.{Command}
 use Rattle.ln_channel.specs.declared.output.Output.{Output}
-use Rattle.ln_switch.specs.declared.saying.Saying.{Saying}
-use Rattle.ln_switch.specs.Saying.{took_one, answered}
-use Rattle.ln_switch.specs.Seen.{Seen, channel_of, next_htlc}
+use Rattle.ln_book.specs.declared.saying.Saying.{Saying}
+use Rattle.ln_book.specs.Saying.{took_one, answered}
+use Rattle.ln_book.specs.Seen.{Seen, channel_of, next_htlc}
 use Rattle.ln_node_loops.specs.declared.item.Item.{Item}
 use Rattle.ln_node_loops.specs.declared.item.Item.TheVariants as item
 use Rattle.ln_node_loops.specs.declared.worker.Phase.{Phase}
 use Rattle.ln_node_loops.specs.Phase.{is_served}
-use Rattle.ln_switch.specs.Answers.{command_subject, answer_to}
+use Rattle.ln_book.specs.Answers.{command_subject, answer_to}
 use Rattle.ln_node_loops.specs.Owed.{owed, asked, kept_if, settled_at, use_word}
 use Rattle.ln_node_loops.specs.Orders.{subject_in, reply_of, replies_to}
 use Rattle.ln_node_loops.specs.Turns.{turn_of, says, drops, events, may_come, replies, Declines}

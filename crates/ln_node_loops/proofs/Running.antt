@@ -21,14 +21,14 @@ use Rattle.ln_node_loops.specs.Turns.{replies, replies_in, Declines}
 use Rattle.ln_node_loops.specs.Orders.{Reply, subject_in, replies_to}
 use Rattle.ln_node_loops.specs.Owed.{owed, load_words}
 use Rattle.ln_node_loops.specs.Phase.{is_served}
-use Rattle.ln_switch.specs.Answers.{command_subject, answer_to}
+use Rattle.ln_book.specs.Answers.{command_subject, answer_to}
 use Rattle.ln_node_loops.proofs.Owing.{item-owes, item-comes, item-replies, asked-at}
 use Rattle.ln_channel.specs.declared.command.Command.{Command}
 use Rattle.ln_channel.specs.declared.command.Command.TheVariants as command
-use Rattle.ln_switch.specs.Saying.{took_one, answered}
-use Rattle.ln_switch.specs.Seen.{channel_of, next_htlc}
-use Rattle.ln_switch.specs.declared.saying.Saying.{Saying}
-use Rattle.ln_switch.specs.Seen.{Seen}
+use Rattle.ln_book.specs.Saying.{took_one, answered}
+use Rattle.ln_book.specs.Seen.{channel_of, next_htlc}
+use Rattle.ln_book.specs.declared.saying.Saying.{Saying}
+use Rattle.ln_book.specs.Seen.{Seen}
 use Rattle.std.specs.Prelude.{not, ◌&&◌}
 
 -- ---- lists

@@ -5,8 +5,8 @@ use Rattle.ln_refusals.specs.declared.refusal.Refusal.TheVariants as refusal
 use Rattle.ln_channel.specs.declared.command.Command.{Command}
 use Rattle.ln_channel.specs.declared.output.Output.{Output}
 use Rattle.ln_channel.specs.Step.{is_of_records}
-use Rattle.ln_switch.specs.Answers.{command_subject}
-use Rattle.ln_switch.specs.Seen.{Seen, next_htlc}
+use Rattle.ln_book.specs.Answers.{command_subject}
+use Rattle.ln_book.specs.Seen.{Seen, next_htlc}
 use Rattle.ln_node_loops.specs.Act.{Act, Obeys}
 use Rattle.ln_node_loops.specs.Sent.{answer_of}
 use Rattle.ln_node_loops.specs.declared.item.Item.{Item}

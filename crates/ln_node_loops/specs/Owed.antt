@@ -4,11 +4,11 @@ use Rattle.ln_refusals.specs.declared.refusal.Refusal.{Refusal}
 use Rattle.ln_hooks.specs.declared.event.ChannelEvent.{ChannelEvent}
 use Rattle.ln_hooks.specs.declared.event.ChannelEvent.TheVariants as event
 use Rattle.ln_channel.specs.declared.command.Command.{Command}
-use Rattle.ln_switch.specs.declared.saying.Saying.{Saying}
-use Rattle.ln_switch.specs.Saying.{took_one, answered, settled, dropped, uses}
-use Rattle.ln_switch.specs.Seen.{Seen}
-use Rattle.ln_switch.specs.Answers.{command_subject, answer_to}
-use Rattle.ln_book_recovery.specs.Kept.{next_own_id}
+use Rattle.ln_book.specs.declared.saying.Saying.{Saying}
+use Rattle.ln_book.specs.Saying.{took_one, answered, settled, dropped, uses}
+use Rattle.ln_book.specs.Seen.{Seen}
+use Rattle.ln_book.specs.Answers.{command_subject, answer_to}
+use Rattle.ln_book.specs.Kept.{next_own_id}
 
 -- what the end has kept, where both have signed its opening
 abbrev pub kept_word : Option Seen → List Saying

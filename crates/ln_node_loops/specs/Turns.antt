@@ -10,9 +10,9 @@ use Rattle.ln_channel.specs.declared.command.Command.TheVariants as command
 use Rattle.ln_channel.specs.declared.output.Output.{Output}
 use Rattle.ln_channel.specs.declared.output.Output.TheVariants as output
 use Rattle.ln_channel.specs.Step.{is_of_records}
-use Rattle.ln_switch.specs.declared.saying.Saying.{Saying}
-use Rattle.ln_switch.specs.Answers.{command_subject}
-use Rattle.ln_switch.specs.Seen.{Seen, channel_of, next_htlc}
+use Rattle.ln_book.specs.declared.saying.Saying.{Saying}
+use Rattle.ln_book.specs.Answers.{command_subject}
+use Rattle.ln_book.specs.Seen.{Seen, channel_of, next_htlc}
 use Rattle.ln_node_loops.specs.Owed.{owed, asked}
 use Rattle.ln_node_loops.specs.Orders.{Reply, subject_in, reply_of, replies_to}
 use Rattle.ln_node_loops.specs.declared.item.Item.{Item}

@@ -1,7 +1,7 @@
 //! The loop of a dispatcher.
 
 ghost use Rattle.std.specs.Prelude.{◌≡◌, ◌++◌, ◌∷◌, []};
-ghost use Rattle.ln_switch.specs.Saying.{decided};
+ghost use Rattle.ln_book.specs.Saying.{decided};
 ghost use Rattle.ln_node_loops.specs.Served.{Served, verdict_word};
 
 use crate::books::Books;

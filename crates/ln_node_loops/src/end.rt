@@ -15,7 +15,7 @@ pub trait End {
     ghost use Rattle.ln_hooks.specs.declared.event.ChannelEvent.{ChannelEvent};
     ghost use Rattle.ln_refusals.specs.declared.refusal.Refusal.{Refusal};
     ghost use Rattle.ln_refusals.specs.declared.refusal.Refusal.TheVariants.{Memory};
-    ghost use Rattle.ln_switch.specs.Seen.{Seen, channel_of, next_htlc};
+    ghost use Rattle.ln_book.specs.Seen.{Seen, channel_of, next_htlc};
     ghost use Rattle.ln_node_loops.specs.Act.{Act, Handles, Obeys, Connects, Drops, Loads};
     ghost use Rattle.ln_node_loops.specs.Sent.{listed, loaded};
 

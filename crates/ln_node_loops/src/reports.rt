@@ -1,7 +1,7 @@
 //! What a worker reports to the book of its node. Where there is no memory for it, it yields and tries again.
 
 ghost use Rattle.std.specs.Prelude.{◌≡◌, ◌++◌, ◌∷◌, []};
-ghost use Rattle.ln_switch.specs.Saying.{settled};
+ghost use Rattle.ln_book.specs.Saying.{settled};
 ghost use Rattle.ln_node_loops.specs.Owed.{is_settled, settled_word, settled_words, kept_word, use_word};
 ghost use Rattle.ln_node_loops.specs.Turns.{events};
 

@@ -4,7 +4,7 @@ ghost use Rattle.std.specs.Prelude.{◌≡◌, ◌++◌, ◌∷◌, [], true, fa
 ghost use Rattle.ln_relay.specs.Position.{WasEmpty};
 ghost use Rattle.ln_node_loops.specs.Turns.{Ran, ReloadsIfHalted, Began, HasStopped, is_new, fresh, last_of, events};
 ghost use Rattle.ln_node_loops.specs.Turns.{tasks, drops};
-ghost use Rattle.ln_switch.specs.Seen.{channel_of};
+ghost use Rattle.ln_book.specs.Seen.{channel_of};
 ghost use Rattle.ln_node_loops.specs.Owed.{kept_if, settled_at, owed, load_words};
 ghost use Rattle.ln_node_loops.specs.declared.item.Item.TheVariants as item;
 ghost use Rattle.ln_node_loops.specs.WorkerLoop.{loop_state, refused_after};
@@ -20,13 +20,13 @@ use crate::reports;
 use crate::task::Task;
 use crate::wire::Closes;
 use crate::worker::{Phase, Turned, Worker};
+use ln_book::{answer_to, command_subject, waits};
 use ln_channel::{Command, Output};
 use ln_hooks::ChannelEvent;
 use ln_log::ChannelId;
 use ln_msgs::Message;
 use ln_refusals::Refusal;
 use ln_relay::{Receives, Sends};
-use ln_switch::{answer_to, command_subject, waits};
 use std::alloc::Global;
 use std::sync::Wait;
 

@@ -8,6 +8,7 @@ ghost use Rattle.ln_node_loops.specs.Sent.{loaded};
 
 use crate::end::End;
 use crate::signing::owes_signature;
+use ln_book::next_id;
 use ln_bytes::Bytes;
 use ln_channel::{Command, Output};
 use ln_hooks::ChannelEvent;
@@ -17,7 +18,6 @@ use ln_log::ChannelId;
 use ln_msgs::Message;
 use ln_refusals::Refusal;
 use ln_store::RecordStore;
-use ln_switch::next_id;
 use std::alloc::Global;
 
 /// A link with the store that it saves in, and the keys with which it comes back from its record.
@@ -90,7 +90,7 @@ impl<K: ChannelKeys + Copy, S: RecordStore + Drop> SavedLink<K, S> {
 
 impl<K: ChannelKeys + Copy, S: RecordStore + Drop> End for SavedLink<K, S> {
     ghost use Rattle.ln_channel.specs.Pending.{pending_at};
-    ghost use Rattle.ln_switch.specs.Seen.{seen_of};
+    ghost use Rattle.ln_book.specs.Seen.{seen_of};
     ghost use Rattle.ln_node_loops.specs.Saved.{Saved, acts};
     ghost use Rattle.ln_node_loops.specs.Signing as signing;
 

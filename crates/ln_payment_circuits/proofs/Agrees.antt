@@ -11,11 +11,11 @@ use Rattle.ln_channel.specs.End.{End}
 use Rattle.ln_book_tables.specs.declared.htlc.Key.{Key}
 use Rattle.ln_book_tables.specs.declared.htlc.Htlc.{Htlc}
 use Rattle.ln_book_tables.specs.Replay.{same_key, is_htlc, left_out, decide, is_over}
-use Rattle.ln_book_recovery.specs.declared.leg.Leg.{Leg}
-use Rattle.ln_book_recovery.specs.Rebuild.{ChannelSnapshot, channel_snapshot_of, led, unfinished, all_unfinished}
-use Rattle.ln_book_recovery.specs.Rebuild.{htlc_left, left, all_left}
-use Rattle.ln_book_recovery.specs.Rebuild.{is_read}
-use Rattle.ln_book_recovery.specs.Rebuild.{rebuilt_htlcs, decided_in, decided_by, incoming_in, peer_updates}
+use Rattle.ln_book.specs.declared.leg.Leg.{Leg}
+use Rattle.ln_book.specs.Rebuild.{ChannelSnapshot, channel_snapshot_of, led, unfinished, all_unfinished}
+use Rattle.ln_book.specs.Rebuild.{htlc_left, left, all_left}
+use Rattle.ln_book.specs.Rebuild.{is_read}
+use Rattle.ln_book.specs.Rebuild.{rebuilt_htlcs, decided_in, decided_by, incoming_in, peer_updates}
 use Rattle.ln_payment_circuits.specs.Snapshot.{IsIn, key_at, snapshots}
 use Rattle.ln_payment_circuits.proofs.Links.{Side}
 use Rattle.ln_payment_circuits.proofs.Lists.{of_picked, passes}

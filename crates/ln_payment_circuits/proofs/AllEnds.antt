@@ -18,15 +18,15 @@ use Rattle.ln_book_tables.specs.declared.htlc.IncomingLeg.TheVariants as incomin
 use Rattle.ln_book_tables.specs.declared.htlc.Htlc.{Htlc}
 use Rattle.ln_log.specs.Mark.{is_held}
 use Rattle.ln_book_tables.specs.Replay.{same, same_key, is_htlc, has_no_outgoing, is_settled, is_over}
-use Rattle.ln_book_recovery.specs.declared.leg.Leg.{Leg}
-use Rattle.ln_book_recovery.specs.Rebuild.{ChannelSnapshot, channel_snapshot_of, is_for, or_leg, result_for, offer_for}
-use Rattle.ln_book_recovery.specs.Rebuild.{outgoing_along, outgoing_for}
-use Rattle.ln_book_recovery.specs.Rebuild.{outgoing_read, led, unfinished, all_unfinished, is_read, htlc_left, left}
-use Rattle.ln_book_recovery.specs.Rebuild.{all_left}
-use Rattle.ln_book_recovery.specs.Rebuild.{rebuilt_htlcs, decided_in, decided_by, htlc_by, incoming_in, incoming_by}
-use Rattle.ln_book_recovery.specs.Rebuild.{peer_updates}
-use Rattle.ln_book_recovery.specs.Rebuild.{holds_removal}
-use Rattle.ln_book_recovery.specs.Kept.{has_own_removal}
+use Rattle.ln_book.specs.declared.leg.Leg.{Leg}
+use Rattle.ln_book.specs.Rebuild.{ChannelSnapshot, channel_snapshot_of, is_for, or_leg, result_for, offer_for}
+use Rattle.ln_book.specs.Rebuild.{outgoing_along, outgoing_for}
+use Rattle.ln_book.specs.Rebuild.{outgoing_read, led, unfinished, all_unfinished, is_read, htlc_left, left}
+use Rattle.ln_book.specs.Rebuild.{all_left}
+use Rattle.ln_book.specs.Rebuild.{rebuilt_htlcs, decided_in, decided_by, htlc_by, incoming_in, incoming_by}
+use Rattle.ln_book.specs.Rebuild.{peer_updates}
+use Rattle.ln_book.specs.Rebuild.{holds_removal}
+use Rattle.ln_book.specs.Kept.{has_own_removal}
 use Rattle.ln_payment.specs.Parts.{Undecided, Decided, Past, OutgoingLeg, Absent}
 use Rattle.ln_payment.specs.Parts.{Refused, Offered, Resolved, Out, Payment}
 use Rattle.ln_payment.specs.Rebuild.{incoming_leg_of, outgoing_of, note_by, note_of_result, note_read}

@@ -21,10 +21,10 @@ use Rattle.ln_log.proofs.Removing.{outcome-append, numbered-take}
 use Rattle.ln_log.proofs.Behind.{found, offered_below}
 use Rattle.ln_book_tables.specs.declared.htlc.Htlc.{Htlc}
 use Rattle.ln_book_tables.specs.Replay.{same, is_htlc}
-use Rattle.ln_book_recovery.specs.Kept.{own_window, has_own_removal}
-use Rattle.ln_book_recovery.specs.Kept as kept
-use Rattle.ln_book_recovery.specs.Rebuild.{key_at, peer_updates, holds_removal, incoming_by, incoming_in, htlc_by}
-use Rattle.ln_book_recovery.specs.Rebuild.{decided_by, decided_in}
+use Rattle.ln_book.specs.Kept.{own_window, has_own_removal}
+use Rattle.ln_book.specs.Kept as kept
+use Rattle.ln_book.specs.Rebuild.{key_at, peer_updates, holds_removal, incoming_by, incoming_in, htlc_by}
+use Rattle.ln_book.specs.Rebuild.{decided_by, decided_in}
 use Rattle.ln_payment.specs.Rebuild.{incoming_leg_of}
 use Rattle.ln_payment_circuits.specs.Snapshot.{is_gone, All}
 use Rattle.ln_payment_circuits.proofs.Updates.{front_live}

@@ -5,7 +5,7 @@ use Rattle.std.proofs.lemmas.Bool.{eq-eqb}
 use Rattle.std.proofs.Math.Bool.{or-true}
 use Rattle.ln_book_tables.specs.declared.htlc.Htlc.{Htlc}
 use Rattle.ln_book_tables.specs.Replay.{same, is_among}
-use Rattle.ln_book_recovery.specs.Kept.{kept_ids}
+use Rattle.ln_book.specs.Kept.{kept_ids}
 use Rattle.ln_payment_circuits.specs.Snapshot.{IsIn}
 
 -- one whose removal was kept is among them

@@ -41,8 +41,8 @@ use Rattle.ln_book_tables.specs.Replay.{with_incoming, put_outgoing, put_incomin
 use Rattle.ln_book_tables.specs.Replay.{is_among, decide}
 use Rattle.ln_book_tables.specs.Replay.{is_offered, is_finished, is_settled, has_nothing_offered, is_open}
 use Rattle.ln_book_tables.specs.Replay.{is_undecided, is_decided}
-use Rattle.ln_book_recovery.specs.Kept.{has_own_removal}
-use Rattle.ln_book_recovery.specs.Rebuild.{rebuilt_htlcs}
+use Rattle.ln_book.specs.Kept.{has_own_removal}
+use Rattle.ln_book.specs.Rebuild.{rebuilt_htlcs}
 use Rattle.ln_book.specs.Commands.{Services, command_of, removal_by, forget_by, forwards_in, is_resolved_in}
 use Rattle.ln_payment.specs.Parts.{IsEnd, IsHeld, Undecided}
 use Rattle.ln_payment.specs.Rebuild.{everywhere, is_uncovered}

@@ -24,13 +24,13 @@ use Rattle.ln_hooks.specs.declared.event.How.{How}
 use Rattle.ln_hooks.specs.declared.event.How.TheVariants as how
 use Rattle.ln_book_tables.specs.declared.htlc.Key.{Key}
 use Rattle.ln_book_tables.specs.declared.htlc.OutgoingLeg.TheVariants as outgoing
-use Rattle.ln_book_recovery.specs.declared.leg.Leg.{Leg}
+use Rattle.ln_book.specs.declared.leg.Leg.{Leg}
 use Rattle.ln_book_tables.specs.Replay.{same_key}
-use Rattle.ln_book_recovery.specs.Kept.{own_window, own_updates}
-use Rattle.ln_book_recovery.specs.Rebuild.{key_at, key_of, leg_from, leg_of, legs_offered, how_of, leg_resolved}
-use Rattle.ln_book_recovery.specs.Rebuild.{legs_resolved}
-use Rattle.ln_book_recovery.specs.Rebuild.{peer_window, peer_updates}
-use Rattle.ln_book_recovery.specs.Rebuild.{is_for}
+use Rattle.ln_book.specs.Kept.{own_window, own_updates}
+use Rattle.ln_book.specs.Rebuild.{key_at, key_of, leg_from, leg_of, legs_offered, how_of, leg_resolved}
+use Rattle.ln_book.specs.Rebuild.{legs_resolved}
+use Rattle.ln_book.specs.Rebuild.{peer_window, peer_updates}
+use Rattle.ln_book.specs.Rebuild.{is_for}
 use Rattle.ln_payment.specs.Parts.{By, Stage}
 use Rattle.ln_payment_circuits.specs.Circuit.{Forwards}
 use Rattle.ln_payment_circuits.specs.Snapshot.{IsIn, All}

@@ -11,10 +11,10 @@ use Rattle.ln_hooks.specs.declared.event.How.{How}
 use Rattle.ln_channel.specs.End.{End}
 use Rattle.ln_book_tables.specs.declared.htlc.Key.{Key}
 use Rattle.ln_book_tables.specs.declared.htlc.OutgoingLeg.TheVariants as outgoing
-use Rattle.ln_book_recovery.specs.declared.leg.Leg.{Leg}
-use Rattle.ln_book_recovery.specs.Rebuild.{ChannelSnapshot, channel_snapshot_of, is_for, or_leg, result_for, offer_for}
-use Rattle.ln_book_recovery.specs.Rebuild.{outgoing_along, outgoing_for}
-use Rattle.ln_book_recovery.specs.Rebuild.{legs_resolved}
+use Rattle.ln_book.specs.declared.leg.Leg.{Leg}
+use Rattle.ln_book.specs.Rebuild.{ChannelSnapshot, channel_snapshot_of, is_for, or_leg, result_for, offer_for}
+use Rattle.ln_book.specs.Rebuild.{outgoing_along, outgoing_for}
+use Rattle.ln_book.specs.Rebuild.{legs_resolved}
 use Rattle.ln_payment.specs.Parts.{Kind, Fulfils, Fails, Proposed, By, Course, Uncovered, Covered, Ended, Out}
 use Rattle.ln_payment.specs.Parts.{Absent, Offered, Resolved}
 use Rattle.ln_payment.specs.Rebuild.{outgoing_by, outgoing_of}

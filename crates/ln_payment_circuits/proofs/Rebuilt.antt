@@ -9,7 +9,7 @@ use Rattle.ln_book_tables.specs.declared.htlc.IncomingLeg.{IncomingLeg as BookIn
 use Rattle.ln_book_tables.specs.declared.htlc.IncomingLeg.TheVariants as incoming
 use Rattle.ln_book_tables.specs.declared.htlc.Htlc.{Htlc}
 use Rattle.ln_book_tables.specs.Replay.{has_no_outgoing, has_nothing_offered, is_settled}
-use Rattle.ln_book_recovery.specs.Rebuild.{may_go_out, outgoing_read}
+use Rattle.ln_book.specs.Rebuild.{may_go_out, outgoing_read}
 use Rattle.ln_payment.specs.Parts.{Fails, Fulfils, Mark, Forward, Hold, Answer}
 use Rattle.ln_payment.specs.Parts.{OutgoingLeg, Absent, Refused, Offered, Resolved, IncomingLeg, Note}
 use Rattle.ln_payment.specs.Rebuild.{note_by}

@@ -22,7 +22,7 @@ use Rattle.ln_book_tables.specs.Replay.{same, same_key, is_htlc, is_offered, cha
 use Rattle.ln_book_tables.specs.Replay.{with_incoming}
 use Rattle.ln_book_tables.specs.Replay.{put_outgoing, is_settled, has_nothing_offered, is_open, is_finished, is_among}
 use Rattle.ln_book_tables.specs.Replay.{htlc_kept}
-use Rattle.ln_book_recovery.specs.Rebuild.{offer_for, rebuilt_htlcs}
+use Rattle.ln_book.specs.Rebuild.{offer_for, rebuilt_htlcs}
 use Rattle.ln_book.specs.Commands.{Services, forwards_in, removal_by}
 use Rattle.ln_payment.specs.Parts.{Kind, Mark, Forward, Hold, Answer, Proposed, Removal, NoRemoval, By}
 use Rattle.ln_payment.specs.Parts.{Out, OutgoingLeg, Absent, Refused, Offered, Resolved, IncomingLeg, Open}

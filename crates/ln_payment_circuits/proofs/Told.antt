@@ -13,8 +13,8 @@ use Rattle.ln_log.specs.Window.{first_live_htlcs, first_balances}
 use Rattle.ln_log.proofs.Behind.{found, offered_below}
 use Rattle.ln_log.proofs.Removing.{numbered-take, outcome-append}
 use Rattle.ln_channel.specs.End.{End, end_dropped}
-use Rattle.ln_book_recovery.specs.Kept.{next_own_id, has_own_removal, own_window}
-use Rattle.ln_book_recovery.specs.Kept as kept
+use Rattle.ln_book.specs.Kept.{next_own_id, has_own_removal, own_window}
+use Rattle.ln_book.specs.Kept as kept
 use Rattle.ln_payment.specs.Parts.{NoRemoval}
 use Rattle.ln_payment.specs.Rebuild.{is_uncovered}
 use Rattle.ln_payment_circuits.specs.Snapshot.{IsFit}

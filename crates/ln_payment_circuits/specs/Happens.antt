@@ -27,8 +27,8 @@ use Rattle.ln_book_tables.specs.declared.entry.KeptState.{KeptState}
 use Rattle.ln_book_tables.specs.Replay.{Table, no_table, with_htlcs, is_told, htlc_of, joined, taken_by, refused_by}
 use Rattle.ln_book_tables.specs.Replay.{with_mark}
 use Rattle.ln_book_tables.specs.Replay.{with_resolved, with_removed, htlc_kept}
-use Rattle.ln_book_recovery.specs.Kept.{kept_ids, next_own_id, has_own_removal}
-use Rattle.ln_book_recovery.specs.Rebuild.{rebuilt_htlcs}
+use Rattle.ln_book.specs.Kept.{kept_ids, next_own_id, has_own_removal}
+use Rattle.ln_book.specs.Rebuild.{rebuilt_htlcs}
 use Rattle.ln_book.specs.Commands.{Services, due, command_of}
 use Rattle.ln_payment.specs.Rebuild.{everywhere}
 use Rattle.ln_payment.specs.Moves.{is_of}

@@ -11,7 +11,7 @@ use Rattle.ln_log.specs.Log.{Log, AreNumbered, AreRemovals, IsWithin}
 use Rattle.ln_channel.specs.End.{End}
 use Rattle.ln_book_tables.specs.declared.htlc.Key.{Key}
 use Rattle.ln_book_tables.specs.declared.htlc.Htlc.{Htlc}
-use Rattle.ln_book_recovery.specs.Rebuild.{ChannelSnapshot, channel_snapshot_of}
+use Rattle.ln_book.specs.Rebuild.{ChannelSnapshot, channel_snapshot_of}
 
 pub record Snapshot : Type 0 where
   pub ends : ℕ → Option End  -- as they are saved, by the numbers of their channels

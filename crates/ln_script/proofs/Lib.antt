@@ -1,3 +1,5 @@
+pub mod Told
+pub mod Printing
 pub mod Failing
 pub mod Words
 pub mod Partners

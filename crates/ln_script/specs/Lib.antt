@@ -1,3 +1,7 @@
+pub mod ProgramError
+pub mod Text
+pub mod Printed
+pub mod Done
 pub mod Word
 pub mod Keys
 pub mod Onion

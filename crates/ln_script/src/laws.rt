@@ -20,8 +20,8 @@ ghost use Rattle.ln_world_channels.specs.declared.step.Node.{Node};
 ghost use Rattle.ln_world_dispatch.specs.Slots.{Answers};
 ghost use Rattle.ln_world.specs.Promises.{OfEach, CallsFollow, DispatchersStand, events_of, channel_steps};
 ghost use Rattle.ln_payment_circuits.specs.Snapshot.{Incoming};
-ghost use Rattle.ln_world_payments.specs.Circuit.{PaysOnce};
-ghost use Rattle.ln_world_payments.specs.Commands.{AreOfBook};
+ghost use Rattle.ln_world.specs.Circuit.{PaysOnce};
+ghost use Rattle.ln_world.specs.Commands.{AreOfBook};
 ghost use Rattle.ln_script.specs.Keys.{toy};
 ghost use Rattle.ln_script.specs.Step.{ToyStep, is_hook};
 ghost use Rattle.ln_script.specs.Script.{lines, script_at, script_hooks, IsFirstBad};
@@ -33,11 +33,10 @@ use ln_world::{
     a_shutdown_is_answered, agreement, bases_are_the_longest, channels_open_as_set, close_is_last,
     closed_at_one_fee, closing_ends, commands_are_done_exactly, decisions_follow_dispatches,
     each_move_may_be_made, events_are_reported, every_end_has_a_record, headline,
-    moves_are_the_machines, never_refused, never_refused_where_fees_overlap,
+    moves_are_the_machines, never_refused, never_refused_where_fees_overlap, one_payment_out,
     readiness_agrees_at_rest, signatures_are_over_what_is_covered,
     undecided_events_are_the_machines,
 };
-use ln_world_payments::one_payment_out;
 
 /// A script is refused by the number of its first bad line, and only where there is one.
 pub fn first_bad_line()
@@ -78,7 +77,7 @@ pub fn steps_are_wide()
 /// has a record, from which it comes back where its node restarts (`ln_world::every_end_has_a_record`), as what the
 /// lines bring and what books command is as wide as it is in code. The base of each end is the longest that its decided
 /// events allow (`ln_world::bases_are_the_longest`). And where a node's ends are asked by its book alone to remove
-/// HTLCs and to forward them, one goes out for each that comes in (`ln_world_payments::one_payment_out`).
+/// HTLCs and to forward them, one goes out for each that comes in (`ln_world::one_payment_out`).
 pub fn scripts_keep_the_promises()
     ensures headline { AfterEachScript (OfEach Headline) }
     ensures no_add_follows_a_shutdown { (text : List ℕ) (steps : List ToyStep) (a : Answers) (hooks number : ℕ)

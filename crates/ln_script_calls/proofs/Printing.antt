@@ -1,7 +1,7 @@
 -- What a command prints, by equal bytes of its reader and its writer.
 use Rattle.std.proofs.Common.{◌≡◌, ℕ, List, [], Option, Some, Result, Ok, Err, OnOk, OnErr, subst}
-use Rattle.ln_commands.specs.declared.choice.Choice.{Choice}
-use Rattle.ln_commands.specs.Done.{Does, DoesPartly}
+use Rattle.ln_script.specs.declared.choice.Choice.{Choice}
+use Rattle.ln_script.specs.Done.{Does, DoesPartly}
 use Rattle.ln_script_calls.specs.Passing.{IsPrinted}
 
 moved : (P : List ℕ → List ℕ → List ℕ → Type 0) (i o n input empty report : List ℕ) → i ≡ input → o ≡ empty

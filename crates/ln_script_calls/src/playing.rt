@@ -1,13 +1,13 @@
 //! Cases that are played.
 
 ghost use Rattle.std.specs.Prelude.{◌≡◌, ℕ, List, [], Ok, None, Some, OnOk, OnErr, IfOk, Option};
-ghost use Rattle.ln_commands.specs.Done.{DoesPartly};
+ghost use Rattle.ln_script.specs.Done.{DoesPartly};
 ghost use Rattle.ln_script_calls.specs.Passing.{IsPrinted, IsReport};
 
 use crate::case::{Case, case_at, lines_in};
 use crate::difference::difference;
-use ln_commands::{Choice, ProgramError, perform};
 use ln_msgs::Counted;
+use ln_script::{Choice, ProgramError, perform};
 use std::alloc::Global;
 use std::io;
 

@@ -1,8 +1,8 @@
 //! What each command of the program writes, and what it says where it fails.
 
 use crate::frames::ping_frame;
-use ln_commands::{Choice, ProgramError, perform};
 use ln_msgs::Counted;
+use ln_script::{Choice, ProgramError, perform};
 use std::alloc::Global;
 use std::test::*;
 

@@ -1,9 +1,8 @@
 //! Scripts that are read whole, writers that fail, and what is told of words that are no command.
 
-use ln_commands::ProgramError;
 use ln_msgs::Counted;
 use ln_refusals::Refusal;
-use ln_script::{first_bad_line, hook_lines, print_all, print_report, read_script};
+use ln_script::{ProgramError, first_bad_line, hook_lines, print_all, print_report, read_script};
 use ln_tests_parts::Narrow;
 use std::alloc::Global;
 use std::test::Fail;

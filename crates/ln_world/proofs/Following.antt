@@ -6,7 +6,7 @@ use Rattle.ln_world_channels.specs.declared.step.Node.{Node}
 use Rattle.ln_world_channels.specs.WorldChannel.{WorldChannel}
 use Rattle.ln_world_channels.specs.World.{channel}
 use Rattle.ln_world_dispatch.specs.World.{undecided}
-use Rattle.ln_book_recovery.specs.Rebuild.{ChannelSnapshot}
+use Rattle.ln_book.specs.Rebuild.{ChannelSnapshot}
 use Rattle.ln_world.specs.Node.{Book}
 use Rattle.ln_world.specs.BookReports.{with_event, with_events}
 use Rattle.ln_world.specs.Follow.{followed_below, with_channel, snapshots_below, snapshot_in}

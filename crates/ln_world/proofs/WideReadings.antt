@@ -39,15 +39,15 @@ use Rattle.ln_book_tables.specs.Replay.{Table, replay, table_of, is_over}
 use Rattle.ln_channel_laws.specs.Widths.{IsOrigin, IsMark, IsAdd, IsUpdate}
 use Rattle.ln_channel_laws.proofs.Offered.{All, all-append, all-take, all-drop, all-when, Where, Does, IsDecision}
 use Rattle.ln_channel_laws.proofs.Offered.{IsSettlement}
-use Rattle.ln_book_recovery.specs.declared.leg.Leg.{Leg}
-use Rattle.ln_book_recovery.specs.Kept.{own_window, own_updates}
-use Rattle.ln_book_recovery.specs.Rebuild.{ChannelSnapshot, leg_from, leg_of, legs_offered, how_of, leg_resolved}
-use Rattle.ln_book_recovery.specs.Rebuild.{legs_resolved}
-use Rattle.ln_book_recovery.specs.Rebuild.{peer_window, peer_updates, incoming_in, decided_by, decided_in}
-use Rattle.ln_book_recovery.specs.Rebuild.{channel_snapshot_of, is_for}
-use Rattle.ln_book_recovery.specs.Rebuild.{or_leg, result_for, offer_for, outgoing_along, outgoing_for, outgoing_read}
-use Rattle.ln_book_recovery.specs.Rebuild.{led}
-use Rattle.ln_book_recovery.specs.Rebuild.{unfinished, all_unfinished, is_read, htlc_left, left, all_left, rebuilt}
+use Rattle.ln_book.specs.declared.leg.Leg.{Leg}
+use Rattle.ln_book.specs.Kept.{own_window, own_updates}
+use Rattle.ln_book.specs.Rebuild.{ChannelSnapshot, leg_from, leg_of, legs_offered, how_of, leg_resolved}
+use Rattle.ln_book.specs.Rebuild.{legs_resolved}
+use Rattle.ln_book.specs.Rebuild.{peer_window, peer_updates, incoming_in, decided_by, decided_in}
+use Rattle.ln_book.specs.Rebuild.{channel_snapshot_of, is_for}
+use Rattle.ln_book.specs.Rebuild.{or_leg, result_for, offer_for, outgoing_along, outgoing_for, outgoing_read}
+use Rattle.ln_book.specs.Rebuild.{led}
+use Rattle.ln_book.specs.Rebuild.{unfinished, all_unfinished, is_read, htlc_left, left, all_left, rebuilt}
 use Rattle.ln_book.specs.Settled.{with_settled}
 use Rattle.ln_world_channels.specs.declared.step.Node.{Node}
 use Rattle.ln_world_channels.specs.WorldChannel.{WorldChannel, place_of, side_of}
@@ -56,9 +56,9 @@ use Rattle.ln_world_dispatch.specs.World.{item, named_at, undecided}
 use Rattle.ln_world.specs.declared.node.NodeBook.{NodeBook}
 use Rattle.ln_world.specs.Node.{Book}
 use Rattle.ln_world.specs.BookReports.{with_event, with_events, with_held, event_count}
-use Rattle.ln_switch.specs.declared.uses.Use.{Use}
-use Rattle.ln_switch.specs.Uses.{use_of, with_route}
-use Rattle.ln_switch.specs.Snapshots.{snapshot_by}
+use Rattle.ln_book.specs.declared.uses.Use.{Use}
+use Rattle.ln_book.specs.Uses.{use_of, with_route}
+use Rattle.ln_book.specs.Snapshots.{snapshot_by}
 use Rattle.ln_world.specs.Follow.{with_end, with_side, with_channel, followed_below}
 use Rattle.ln_world.specs.Follow.{followed, side_snapshot, snapshot_in, snapshots_below, begun_anew}
 use Rattle.ln_world.proofs.WideTables.{IsHow, IsOutgoingLeg, IsKey, IsHtlc, IsTable, IsEntry, either, where-either}

@@ -11,7 +11,7 @@ use Rattle.ln_channel.specs.declared.command.Command.{Command}
 use Rattle.ln_channel.specs.declared.command.Command.TheVariants as command
 use Rattle.ln_channel.specs.End.{End as ChannelEnd}
 use Rattle.ln_book.specs.Settled.{with_settled}
-use Rattle.ln_switch.specs.Answers.{answer_to}
+use Rattle.ln_book.specs.Answers.{answer_to}
 use Rattle.ln_world_channels.specs.declared.line.Choice.{Choice}
 use Rattle.ln_world_channels.specs.declared.line.Choice.TheVariants as choice
 use Rattle.ln_world_channels.specs.declared.line.Line.{Line}

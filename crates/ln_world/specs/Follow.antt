@@ -8,9 +8,9 @@ use Rattle.ln_channel.specs.Record.{saved_end}
 use Rattle.ln_channel.specs.State.{State}
 use Rattle.ln_history.specs.History.{begun_with}
 use Rattle.ln_book_tables.specs.Replay.{table_of}
-use Rattle.ln_book_recovery.specs.Rebuild.{ChannelSnapshot, rebuilt}
-use Rattle.ln_switch.specs.Uses.{use_of, with_use}
-use Rattle.ln_switch.specs.Snapshots.{snapshot_by}
+use Rattle.ln_book.specs.Rebuild.{ChannelSnapshot, rebuilt}
+use Rattle.ln_book.specs.Uses.{use_of, with_use}
+use Rattle.ln_book.specs.Snapshots.{snapshot_by}
 use Rattle.ln_world_channels.specs.declared.step.Node.{Node}
 use Rattle.ln_world_channels.specs.WorldChannel.{WorldChannel, side_of, place_of}
 use Rattle.ln_world_channels.specs.World.{channel}

@@ -1,3 +1,5 @@
+pub mod Commands
+pub mod Circuit
 pub mod Node
 pub mod BookReports
 pub mod Follow

@@ -47,8 +47,8 @@ use Rattle.ln_world.specs.declared.follow_up.FollowUp.{FollowUp}
 use Rattle.ln_world.specs.declared.follow_up.FollowUp.TheVariants as follow_up
 use Rattle.ln_world.specs.declared.node.NodeBook.{NodeBook}
 use Rattle.ln_world.specs.Node.{Book, services, node_at, changed, with_policy, with_book}
-use Rattle.ln_switch.specs.Answers.{next_id, command_subject, replied}
-use Rattle.ln_switch.specs.Uses.{with_dropped}
+use Rattle.ln_book.specs.Answers.{next_id, command_subject, replied}
+use Rattle.ln_book.specs.Uses.{with_dropped}
 use Rattle.ln_world.specs.BookReports.{answer_by, noted_of, decided_line, event_count, with_held}
 use Rattle.ln_world.specs.Follow.{followed, begun_anew}
 

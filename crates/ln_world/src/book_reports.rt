@@ -8,11 +8,10 @@ ghost use Rattle.ln_world.specs.BookReports.{decided_line};
 ghost use Rattle.ln_world.specs.BookReports.{event_count, with_event, with_events, with_held};
 
 use crate::follow_up::DecisionNote;
-use ln_book::Book;
+use ln_book::{Book, answer_to};
 use ln_channel::{Channel as ChannelEnd, Command};
 use ln_log::{ChannelId, Mark};
 use ln_refusals::Refusal;
-use ln_switch::answer_to;
 use ln_world_dispatch::{Choice, End, Line, undecided};
 use std::alloc::Global;
 

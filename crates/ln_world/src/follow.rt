@@ -9,13 +9,11 @@ ghost use Rattle.ln_world.specs.Follow.{with_end, with_side, with_channel, follo
 ghost use Rattle.ln_world.specs.Follow.{side_snapshot, snapshot_in, snapshots_below, begun_anew};
 
 use crate::node::NodeBook;
-use ln_book::Book;
-use ln_book_recovery::ChannelSnapshot;
+use ln_book::{Book, ChannelSnapshot, read_end, use_of};
 use ln_channel::ChannelMachine;
 use ln_forward::Policy;
 use ln_keys::{ChannelKeys, Role};
 use ln_refusals::Refusal;
-use ln_switch::{read_end, use_of};
 use ln_world_channels::{World as Channels, WorldChannel};
 use ln_world_dispatch::Node;
 use std::alloc::Global;
@@ -31,7 +29,7 @@ fn follow_end<K: ChannelKeys + Copy>(
 {
     match link.saved() {
         None => Ok(()),
-        Some(end) => ln_switch::follow(book, policy, use_of(link, end)),
+        Some(end) => ln_book::follow(book, policy, use_of(link, end)),
     }
 }
 

@@ -1,5 +1,6 @@
 //! A world of nodes: channels between them, dispatchers that hand the channels' events to hooks, and for each node a
-//! book of forwarded payments, whose commands its channels take; moved step by step.
+//! book of forwarded payments, whose commands its channels take; moved step by step. What is promised of a payment that
+//! passes through a node: payment_laws.rt.
 #![tactic(auto)]
 
 mod book_reports;
@@ -10,6 +11,7 @@ mod follow_up;
 mod laws;
 mod machine;
 mod node;
+mod payment_laws;
 mod prepare;
 mod step;
 mod world;
@@ -32,5 +34,6 @@ pub use machine::{
     undecided_events_are_the_machines,
 };
 pub use node::NodeBook;
+pub use payment_laws::{one_payment_out, what_is_covered_stays};
 pub use step::{Act, Step};
 pub use world::World;

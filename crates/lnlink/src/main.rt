@@ -4,10 +4,10 @@
 ghost use Rattle.std.specs.Prelude.{◌≡◌, ◌⊎◌, IfErr};
 ghost use Rattle.ln_refusals.specs.declared.refusal.Refusal.TheVariants.{Memory};
 
-use ln_commands::{Choice, ProgramError, perform};
 use ln_demo::demo;
 use ln_msgs::Counted;
 use ln_refusals::Refusal;
+use ln_script::{Choice, ProgramError, perform};
 use ln_words::{Asked, Unasked, choose};
 use std::env::Env;
 use std::io::ErrorKind;

@@ -1,6 +1,6 @@
 use Rattle.std.proofs.Common.{ap, ◌∙◌, ◌++◌}
 use Rattle.ln_channel.specs.Record.{saved_end}
-use Rattle.ln_switch.specs.Snapshots.{snapshot_by}
+use Rattle.ln_book.specs.Snapshots.{snapshot_by}
 use Rattle.ln_node.proofs.Readings.{one-more}
 use Rattle.ln_node.proofs.stored.snapshots.Goals as goal
 

@@ -1,6 +1,6 @@
 use Rattle.std.proofs.Common.{ap, refl, ◌∙◌, ◌++◌, ◌∷◌, [], subst}
 use Rattle.std.specs.Prelude.{map}
-use Rattle.ln_switch.specs.Seen.{channel_of}
+use Rattle.ln_book.specs.Seen.{channel_of}
 use Rattle.ln_node_loops.specs.Turns.{told, tasks_of, AreEvents, fresh}
 use Rattle.ln_node_loops.proofs.Running.{put-first}
 use Rattle.ln_node_loops.proofs.Course.{all-put, told-joined, news-are}

@@ -1,6 +1,6 @@
 use Rattle.std.proofs.Common.{◌∙◌, refl, ap, ◌++◌, false}
 use Rattle.ln_relay.specs.Position.{WasEmpty}
-use Rattle.ln_switch.specs.Seen.{channel_of}
+use Rattle.ln_book.specs.Seen.{channel_of}
 use Rattle.ln_node_loops.specs.Turns.{fresh, last_of, tasks}
 use Rattle.ln_node_loops.specs.Owed.{owed}
 use Rattle.ln_node_loops.proofs.Running.{ran-none, ran-on, ran-mended, ran-there}

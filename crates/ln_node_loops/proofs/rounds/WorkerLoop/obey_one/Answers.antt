@@ -1,7 +1,7 @@
 use Rattle.std.proofs.Common.{sym, refl, ap, ◌∙◌, ◌++◌, ◌∷◌, [], false, append-nil}
-use Rattle.ln_switch.specs.Saying.{answered, took}
+use Rattle.ln_book.specs.Saying.{answered, took}
 use Rattle.ln_node_loops.specs.Owed.{owed}
-use Rattle.ln_switch.specs.Answers.{answer_to}
+use Rattle.ln_book.specs.Answers.{answer_to}
 use Rattle.ln_node_loops.specs.Turns.{events, OfBook}
 use Rattle.ln_node_loops.proofs.Running.{ran-none, ran-still, ran-asked}
 use Rattle.ln_node_loops.proofs.rounds.WorkerLoop.obey_one.Goals as goal

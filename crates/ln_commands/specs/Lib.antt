@@ -1,4 +1,0 @@
-pub mod ProgramError
-pub mod Text
-pub mod Printed
-pub mod Done

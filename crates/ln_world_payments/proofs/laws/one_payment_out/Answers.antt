@@ -1,5 +1,0 @@
-use Rattle.ln_world_payments.proofs.Paying.{one_payment_out}
-use Rattle.ln_world_payments.proofs.laws.one_payment_out.Goals as goal
-
-pub returns : goal.returns
-returns g c = one_payment_out g.K.ChannelKeys

@@ -1,5 +1,0 @@
-use Rattle.ln_world_payments.proofs.Covering.{stays_covered}
-use Rattle.ln_world_payments.proofs.laws.what_is_covered_stays.Goals as goal
-
-pub returns : goal.returns
-returns g c = stays_covered g.K.ChannelKeys
