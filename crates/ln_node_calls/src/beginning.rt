@@ -79,11 +79,16 @@ impl<R> Row<ToyNode, R>
 where
     R: Net<Listener = TcpListener, Stream = TcpStream> + Threads + Wait + Copy + Send + 'static,
 {
+    // Each node of the row signs alike, and is at this block.
+    fn set(&self, node: &mut ToyNode) {
+        node.set_signing(self.signing);
+        node.book().lock(&self.rt).set_height(100);
+    }
+
     // A new node.
     fn begin(&mut self) -> Result<(), Refusal> {
         let mut node: ToyNode = Node::new(self.alloc, ToyOnion, POLICY)?;
-        node.set_signing(self.signing);
-        node.book().lock(&self.rt).set_height(100);
+        self.set(&mut node);
         self.nodes.push(node)?;
         Ok(())
     }
@@ -155,8 +160,7 @@ where
         let stores = old.into_stores(self.rt, self.alloc)?;
         let stored = all_stored(self.alloc, node, self.gauges.as_slice(), stores)?;
         let mut new: ToyNode = Node::restore(self.rt, self.alloc, ToyOnion, POLICY, stored)?;
-        new.set_signing(self.signing);
-        new.book().lock(&self.rt).set_height(100);
+        self.set(&mut new);
         self.put(node, new)?;
         self.lead(node);
         Ok(())

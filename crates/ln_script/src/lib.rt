@@ -1,5 +1,5 @@
-//! Texts: scripts, each line one step of nodes and channels or a few; a report of what they did; and the commands of the
-//! program, which read and write them.
+//! Texts: scripts, each line one step of nodes and channels or a few; a report of what they did; and the commands of
+//! the program, which read and write them.
 #![tactic(auto)]
 
 mod choice;
