@@ -1,6 +1,6 @@
 -- Each item is read as it is written, and nothing else is.
 use Rattle.std.proofs.Common.{◌≡◌, ℕ, ◌/◌, ◌%◌, ◌<◌, Bool, true, false, cond, List, [], ◌∷◌, Option, Some}
-use Rattle.std.proofs.Common.{None, nat_lt, ◌==◌, refl, sym, ap, ◌∙◌, arith, inl, inr}
+use Rattle.std.proofs.Common.{None, nat_lt, ◌==◌, ◌+◌, ◌*◌, refl, sym, ap, ◌∙◌, arith, inl, inr}
 use Rattle.std.proofs.lemmas.Bool.{eqb-true, ltb-true, eqb-false}
 use Rattle.ln_bytes.proofs.Reading.{chosen}
 use Rattle.ln_refusals.specs.declared.refusal.Refusal.{Refusal}
@@ -88,16 +88,38 @@ later_is m = elim (m % 2 == 1) as (λ b. (m % 2 == 1) ≡ b → later_bit (cond 
   | false ↦ λ e. let ne = eqb-false (m % 2) 1 e in omega (arith, ne)
 ] refl
 
+half : (n : ℕ) → n ≡ n % 2 + 2 * (n / 2)
+half n = omega arith
+
+quarter : (n : ℕ) → n / 4 ≡ n / 2 / 2
+quarter n = omega arith
+
+eighth : (n : ℕ) → n / 8 ≡ n / 4 / 2
+eighth n = omega arith
+
+sixteenth : (n : ℕ) → n / 16 ≡ n / 8 / 2
+sixteenth n = omega arith
+
+bit_below : (n : ℕ) → n < 32 → n / 16 ≡ n / 16 % 2
+bit_below n h = omega (arith, h)
+
+bits_add_up : (n n2 n4 n8 n16 a b c d l : ℕ) → n ≡ a + 2 * n2 → n2 ≡ b + 2 * n4 → n4 ≡ c + 2 * n8 → n8 ≡ d + 2 * n16
+    → n16 ≡ l → a + 2 * b + 4 * c + 8 * d + 16 * l ≡ n
+bits_add_up n n2 n4 n8 n16 a b c d l e2 e4 e8 e16 e = omega (arith, e2, e4, e8, e16, e)
+
+-- a number by its half and what is odd of it
+halved : (n m r : ℕ) → n / 2 ≡ m → r ≡ n % 2 → n ≡ r + 2 * m
+halved n m r e f = let h = half n in omega (arith, e, f, h)
+
 flags_back : (n : ℕ) (f : Flags) → flags_of n ≡ Some f → flags_number f ≡ n
 flags_back n f e = elim (chosen (nat_lt n 32) _ None (Some f) e) [
   | inl h ↦
       let below : n < 32 = ltb-true n 32 h.0 in
-      let a = bit_is n in
-      let b = bit_is (n / 2) in
-      let c = bit_is (n / 4) in
-      let d = bit_is (n / 8) in
-      let l = later_is (n / 16) in
-      ap flags_number (sym (some_is _ f h.1)) ∙ omega (arith, a, b, c, d, l)
+      ap flags_number (sym (some_is _ f h.1)) ∙ bits_add_up n (n / 2) (n / 4) (n / 8) (n / 16) _ _ _ _ _
+      (halved n (n / 2) _ refl (bit_is n)) (halved (n / 2) (n / 4) _ (sym (quarter n)) (bit_is (n / 2)))
+      (halved (n / 4) (n / 8) _ (sym (eighth n)) (bit_is (n / 4)))
+      (halved (n / 8) (n / 16) _ (sym (sixteenth n)) (bit_is (n / 8)))
+      (bit_below n below ∙ sym (later_is (n / 16)))
   | inr h ↦ absurd cc
 ]
 
