@@ -3,9 +3,9 @@
 ghost use Rattle.std.specs.Prelude.{◌≡◌};
 ghost use Rattle.ln_book.specs.Saying.{last_use};
 
+use crate::book::Book;
 use crate::saying::{Saying, shown, with_word};
 use crate::uses::{Use, follow, is_again};
-use ln_book::Book;
 use ln_channel::{Channel, Command};
 use ln_forward::Policy;
 use ln_history::Past;

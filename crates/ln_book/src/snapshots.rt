@@ -4,7 +4,7 @@ ghost use Rattle.std.specs.Prelude.{◌≡◌, ◌++◌, OnOk, IfErr, option_cop
 ghost use Rattle.ln_refusals.specs.declared.refusal.Refusal.TheVariants as refusal;
 ghost use Rattle.ln_book.specs.Snapshots.{snapshot_by};
 
-use ln_book::ChannelSnapshot;
+use crate::leg::ChannelSnapshot;
 use ln_channel::Channel;
 use ln_refusals::Refusal;
 use std::alloc::Global;

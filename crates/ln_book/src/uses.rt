@@ -5,7 +5,7 @@ ghost use Rattle.ln_refusals.specs.declared.refusal.Refusal.TheVariants as refus
 ghost use Rattle.ln_forward.specs.Payload.{id_bytes};
 ghost use Rattle.ln_book.specs.Uses.{takes_payments, minimum_of_peer, use_of, with_route, with_use};
 
-use ln_book::Book;
+use crate::book::Book;
 use ln_bytes::ShortId;
 use ln_channel::{Channel, ChannelMachine};
 use ln_forward::Policy;

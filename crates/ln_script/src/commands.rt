@@ -13,12 +13,13 @@ ghost use Rattle.ln_script.specs.Done.{script_in, Simulates, SimulatesPartly, Do
 
 use crate::choice::Choice;
 use crate::input::read_all;
+use crate::print::print_all;
 use crate::program_error::ProgramError;
+use crate::reading::hook_lines;
 use crate::simulation::{script_text, simulate};
 use crate::text::decode_text;
 use ln_msgs::{Counted, answer_pings};
 use ln_refusals::Refusal;
-use ln_script::{hook_lines, print_all};
 use std::alloc::Global;
 use std::io::{Read, Write};
 

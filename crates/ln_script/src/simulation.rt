@@ -9,9 +9,9 @@ ghost use Rattle.ln_script.specs.Script.{script_at};
 ghost use Rattle.ln_script.specs.Report.{ReportsScript, ReportsScriptPartly};
 
 use crate::program_error::ProgramError;
+use crate::running::report_script;
 use ln_msgs::Counted;
 use ln_refusals::Refusal;
-use ln_script::report_script;
 use ln_world::Serve;
 use std::alloc::Global;
 use std::io::Write;
