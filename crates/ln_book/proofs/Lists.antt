@@ -11,7 +11,7 @@ use Rattle.ln_book_tables.specs.declared.htlc.Htlc.{Htlc}
 use Rattle.ln_book_tables.specs.Replay.{same}
 use Rattle.ln_book_tables.specs.Ids.{ids_in}
 use Rattle.ln_book.specs.Kept.{kept_ids}
-use Rattle.ln_book.specs.declared.leg.Leg.{Leg}
+use Rattle.ln_book.specs.declared.recovery.leg.Leg.{Leg}
 use Rattle.ln_book.specs.Rebuild.{leg_of, legs_offered}
 
 cons_append : (o : Option Leg) (xs ys : List Leg) → cons_option o (xs ++ ys) ≡ cons_option o xs ++ ys

@@ -28,7 +28,7 @@ use Rattle.ln_book_tables.specs.declared.entry.Out.TheVariants as out
 use Rattle.ln_book_tables.specs.declared.entry.PendingCommand.{PendingCommand}
 use Rattle.ln_book_tables.specs.declared.entry.PendingCommand.TheVariants as pending_command
 use Rattle.ln_book_tables.specs.declared.entry.Entry.TheVariants as entry
-use Rattle.ln_book.specs.declared.leg.Leg.{Leg}
+use Rattle.ln_book.specs.declared.recovery.leg.Leg.{Leg}
 use Rattle.ln_book_tables.specs.Replay.{Table, no_table, queued_of, resumed_of, after}
 use Rattle.ln_book_tables.specs.Held.{all_held}
 use Rattle.ln_book.specs.Kept.{own_updates, has_own_removal}

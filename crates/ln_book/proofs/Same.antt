@@ -6,7 +6,7 @@ use Rattle.std.proofs.Math.Dec.{eqb}
 use Rattle.std.proofs.lemmas.Bool.{eqb-true, eq-eqb}
 use lib.Pointwise.{pointwise, bytes_decides}
 use mathlib.Core.Bool.{beq}
-use Rattle.ln_book.specs.declared.uses.Use.{Use}
+use Rattle.ln_book.specs.declared.switch.uses.Use.{Use}
 
 both : (a b : Bool) → (a && b) ≡ true → (a ≡ true) × (b ≡ true)
 both true b e = (refl, e)

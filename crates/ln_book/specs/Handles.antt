@@ -1,8 +1,8 @@
 -- What a contract sees of a handle at a book.
 use Rattle.std.specs.Prelude.{List}
 use Rattle.ln_forward.specs.declared.checks.Policy.{Policy}
-use Rattle.ln_book.specs.declared.saying.Saying.{Saying}
-use Rattle.ln_book.specs.declared.handle.BookHandle.{BookHandle}
+use Rattle.ln_book.specs.declared.switch.saying.Saying.{Saying}
+use Rattle.ln_book.specs.declared.switch.handle.BookHandle.{BookHandle}
 
 -- all that was said through it, oldest first
 abbrev pub said : {O : Type 0} → BookHandle O → List Saying

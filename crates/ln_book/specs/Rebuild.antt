@@ -23,7 +23,7 @@ use Rattle.ln_book_tables.specs.declared.htlc.OutgoingLeg.TheVariants as outgoin
 use Rattle.ln_book_tables.specs.declared.htlc.IncomingLeg.{IncomingLeg}
 use Rattle.ln_book_tables.specs.declared.htlc.IncomingLeg.TheVariants as incoming
 use Rattle.ln_book_tables.specs.declared.htlc.Htlc.{Htlc}
-use Rattle.ln_book.specs.declared.leg.Leg.{Leg}
+use Rattle.ln_book.specs.declared.recovery.leg.Leg.{Leg}
 use Rattle.ln_book_tables.specs.Replay.{Table, same_key, is_htlc, put_outgoing, is_open, has_nothing_offered, is_over}
 use Rattle.ln_book.specs.Kept.{own_updates, has_own_removal}
 

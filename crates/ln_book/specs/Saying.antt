@@ -5,9 +5,9 @@ use Rattle.ln_hooks.specs.declared.event.ChannelEvent.{ChannelEvent}
 use Rattle.ln_hooks.specs.declared.verdict.Verdict.{Verdict}
 use Rattle.ln_channel.specs.declared.command.Command.{Command}
 use Rattle.ln_channel.specs.End.{End}
-use Rattle.ln_book.specs.declared.uses.Use.{Use}
-use Rattle.ln_book.specs.declared.saying.Saying.{Saying}
-use Rattle.ln_book.specs.declared.saying.Saying.TheVariants as saying
+use Rattle.ln_book.specs.declared.switch.uses.Use.{Use}
+use Rattle.ln_book.specs.declared.switch.saying.Saying.{Saying}
+use Rattle.ln_book.specs.declared.switch.saying.Saying.TheVariants as saying
 
 abbrev pub took_one : List ℕ → Command → Saying
 took_one channel c = saying.Took channel (of_value c)

@@ -4,7 +4,7 @@ use Rattle.ln_channel.specs.End.{End}
 use Rattle.ln_channel.specs.Record.{saved_end}
 use Rattle.ln_channel.specs.State.{State}
 use Rattle.ln_book.specs.Kept.{next_own_id}
-use Rattle.ln_book.specs.declared.uses.Use.{Use}
+use Rattle.ln_book.specs.declared.switch.uses.Use.{Use}
 use Rattle.ln_book.specs.Uses.{use_of}
 
 pub record Seen : Type 0 where

@@ -13,7 +13,7 @@ use Rattle.ln_book_tables.specs.declared.entry.KeptState.{KeptState}
 use Rattle.ln_history.specs.History.{History, with_entry}
 use Rattle.ln_book_tables.specs.Replay.{Table, table_of}
 use Rattle.ln_book.specs.Kept.{kept_state_of, next_own_id, has_own_removal, has_decided}
-use Rattle.ln_book.specs.declared.uses.Use.{Use}
+use Rattle.ln_book.specs.declared.switch.uses.Use.{Use}
 
 -- it is ready and connected, has neither failed nor halted, nor closed, and neither side has shut down
 abbrev pub takes_payments : {K : Type 0} → State K → End → Bool

@@ -3,11 +3,11 @@
 ghost use Rattle.std.specs.Prelude.{◌≡◌, IfOk, IfErr};
 
 use crate::commands::first_command;
-use crate::kept::{Kept, kept_state_of};
-use crate::leg::ChannelSnapshot;
 use crate::legs::other_channel;
 use crate::marks::{mark_by, mark_of, offer_of};
-use crate::rebuild::rebuilt_htlcs;
+use crate::recovery::kept::{Kept, kept_state_of};
+use crate::recovery::leg::ChannelSnapshot;
+use crate::recovery::rebuild::rebuilt_htlcs;
 use ln_book_tables::{
     Decided, Entry, HeldHtlc, Invoice, KeptState, Key, Offer, Out, OutgoingChannel, PendingCommand,
     Resumed, Tables,

@@ -6,8 +6,8 @@ use Rattle.std.proofs.Crossing.{crosses}
 use Rattle.std.specs.contracts.option.Option as Option
 use Rattle.ln_forward.specs.contracts.checks.Policy as Policy
 use Rattle.ln_book.proofs.book.Book.TheSendSync as book
-use Rattle.ln_book.specs.contracts.uses.Use as Use
-use Rattle.ln_book.specs.contracts.handle.BookHandle as BookHandle
+use Rattle.ln_book.specs.contracts.switch.uses.Use as Use
+use Rattle.ln_book.specs.contracts.switch.handle.BookHandle as BookHandle
 use Rattle.ln_node.proofs.wakeups.ChannelWakeup.TheSendSync as own
 use Rattle.ln_node.proofs.wakeups.Wakeups.TheSendSync as wakeups
 use Rattle.ln_node.proofs.notices.Notices.TheSendSync as notices

@@ -5,7 +5,7 @@ use Rattle.ln_msgs.specs.declared.messages.message.Message.{Message}
 use Rattle.ln_refusals.specs.declared.refusal.Refusal.{Refusal}
 use Rattle.ln_hooks.specs.declared.event.ChannelEvent.{ChannelEvent}
 use Rattle.ln_channel.specs.declared.output.Output.{Output}
-use Rattle.ln_book.specs.declared.saying.Saying.{Saying}
+use Rattle.ln_book.specs.declared.switch.saying.Saying.{Saying}
 use Rattle.ln_book.specs.Seen.{Seen}
 use Rattle.ln_node_loops.specs.declared.item.Item.{Item}
 use Rattle.ln_node_loops.specs.declared.item.Item.TheVariants as item

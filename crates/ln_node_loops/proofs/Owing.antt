@@ -7,7 +7,7 @@ use Rattle.ln_refusals.specs.declared.refusal.Refusal.{Refusal}
 use Rattle.ln_hooks.specs.declared.event.ChannelEvent.{ChannelEvent}
 use Rattle.ln_channel.specs.declared.command.Command.{Command}
 use Rattle.ln_channel.specs.declared.output.Output.{Output}
-use Rattle.ln_book.specs.declared.saying.Saying.{Saying}
+use Rattle.ln_book.specs.declared.switch.saying.Saying.{Saying}
 use Rattle.ln_book.specs.Saying.{took_one, answered}
 use Rattle.ln_book.specs.Seen.{Seen, channel_of, next_htlc}
 use Rattle.ln_node_loops.specs.declared.item.Item.{Item}

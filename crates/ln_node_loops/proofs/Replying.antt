@@ -6,7 +6,7 @@ use Rattle.ln_refusals.specs.declared.refusal.Refusal.{Refusal}
 use Rattle.ln_hooks.specs.declared.event.ChannelEvent.{ChannelEvent}
 use Rattle.ln_channel.specs.declared.command.Command.{Command}
 use Rattle.ln_channel.specs.declared.output.Output.{Output}
-use Rattle.ln_book.specs.declared.saying.Saying.{Saying}
+use Rattle.ln_book.specs.declared.switch.saying.Saying.{Saying}
 use Rattle.ln_book.specs.Answers.{command_subject}
 use Rattle.ln_book.specs.Seen.{Seen, next_htlc}
 use Rattle.ln_node_loops.specs.declared.item.Item.{Item}

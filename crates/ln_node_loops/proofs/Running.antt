@@ -27,7 +27,7 @@ use Rattle.ln_channel.specs.declared.command.Command.{Command}
 use Rattle.ln_channel.specs.declared.command.Command.TheVariants as command
 use Rattle.ln_book.specs.Saying.{took_one, answered}
 use Rattle.ln_book.specs.Seen.{channel_of, next_htlc}
-use Rattle.ln_book.specs.declared.saying.Saying.{Saying}
+use Rattle.ln_book.specs.declared.switch.saying.Saying.{Saying}
 use Rattle.ln_book.specs.Seen.{Seen}
 use Rattle.std.specs.Prelude.{not, ◌&&◌}
 

@@ -5,7 +5,7 @@ use Rattle.std.proofs.lemmas.List.{take_more, append_assoc}
 use Rattle.ln_hooks.specs.declared.event.ChannelEvent.{ChannelEvent}
 use Rattle.ln_channel.specs.declared.output.Output.{Output}
 use Rattle.ln_channel.specs.declared.output.Output.TheVariants as output
-use Rattle.ln_book.specs.declared.saying.Saying.{Saying}
+use Rattle.ln_book.specs.declared.switch.saying.Saying.{Saying}
 use Rattle.ln_node_loops.specs.Owed.{settled_word, settled_words}
 use Rattle.ln_node_loops.specs.Turns.{events}
 

@@ -4,7 +4,7 @@ use Rattle.ln_refusals.specs.declared.refusal.Refusal.{Refusal}
 use Rattle.ln_hooks.specs.declared.event.ChannelEvent.{ChannelEvent}
 use Rattle.ln_hooks.specs.declared.event.ChannelEvent.TheVariants as event
 use Rattle.ln_channel.specs.declared.command.Command.{Command}
-use Rattle.ln_book.specs.declared.saying.Saying.{Saying}
+use Rattle.ln_book.specs.declared.switch.saying.Saying.{Saying}
 use Rattle.ln_book.specs.Saying.{took_one, answered, settled, dropped, uses}
 use Rattle.ln_book.specs.Seen.{Seen}
 use Rattle.ln_book.specs.Answers.{command_subject, answer_to}

@@ -2,7 +2,7 @@
 use Rattle.std.specs.Prelude.{◌≡◌, ℕ, List, [], ◌∷◌, ◌++◌, Option, Some, None}
 use Rattle.ln_hooks.specs.declared.event.ChannelEvent.{ChannelEvent}
 use Rattle.ln_hooks.specs.declared.verdict.Verdict.{Verdict}
-use Rattle.ln_book.specs.declared.saying.Saying.{Saying}
+use Rattle.ln_book.specs.declared.switch.saying.Saying.{Saying}
 use Rattle.ln_book.specs.Saying.{decided}
 use Rattle.ln_node_loops.specs.declared.task.Task.{Task}
 use Rattle.ln_node_loops.specs.declared.task.Task.TheVariants as task

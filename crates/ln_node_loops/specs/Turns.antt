@@ -10,7 +10,7 @@ use Rattle.ln_channel.specs.declared.command.Command.TheVariants as command
 use Rattle.ln_channel.specs.declared.output.Output.{Output}
 use Rattle.ln_channel.specs.declared.output.Output.TheVariants as output
 use Rattle.ln_channel.specs.Step.{is_of_records}
-use Rattle.ln_book.specs.declared.saying.Saying.{Saying}
+use Rattle.ln_book.specs.declared.switch.saying.Saying.{Saying}
 use Rattle.ln_book.specs.Answers.{command_subject}
 use Rattle.ln_book.specs.Seen.{Seen, channel_of, next_htlc}
 use Rattle.ln_node_loops.specs.Owed.{owed, asked}

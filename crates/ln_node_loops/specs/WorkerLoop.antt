@@ -3,7 +3,7 @@ use Rattle.std.specs.Prelude.{ℕ, Bool, if◌then◌else◌, nat_lt, ◌+◌, L
 use Rattle.ln_node_loops.specs.declared.item.Item.{Item}
 use Rattle.ln_node_loops.specs.declared.task.Task.{Task}
 use Rattle.ln_node_loops.specs.declared.rounds.WorkerLoop.{WorkerLoop}
-use Rattle.ln_book.specs.declared.saying.Saying.{Saying}
+use Rattle.ln_book.specs.declared.switch.saying.Saying.{Saying}
 use Rattle.ln_node_loops.specs.Orders.{Reply}
 use Rattle.ln_node_loops.specs.Turns.{LoopState}
 use Rattle.ln_node_loops.specs.Worker.{stand}

@@ -13,7 +13,7 @@ use std::sync::Wait;
 /// through it. The book is behind a lock that is held for one call, so what it holds in between isn't said.
 pub trait Books {
     ghost use Rattle.std.specs.Prelude.{◌≡◌, ◌++◌, ◌∷◌, [], List, OnOk, OnErr};
-    ghost use Rattle.ln_book.specs.declared.saying.Saying.{Saying};
+    ghost use Rattle.ln_book.specs.declared.switch.saying.Saying.{Saying};
     ghost use Rattle.ln_book.specs.Saying.{took, answered, settled, decided};
 
     /// All that was said through it, oldest first.

@@ -11,7 +11,7 @@ ghost use Rattle.ln_link.specs.Loading.{HasRecord, end_of};
 ghost use Rattle.ln_relay.specs.Position.{IsMergeOfAll, Position, WasEmpty};
 ghost use Rattle.ln_node_loops.specs.declared.task.Task.{Task};
 ghost use Rattle.ln_node_loops.specs.Served.{events_in, Begins};
-ghost use Rattle.ln_book.specs.declared.saying.Saying.{Saying};
+ghost use Rattle.ln_book.specs.declared.switch.saying.Saying.{Saying};
 ghost use Rattle.ln_node_loops.specs.Turns.{LoopState, Began, told, AreEvents, Stand, Turn, Leads, News};
 ghost use Rattle.ln_node_loops.specs.Turns.{cuts_off, JoinNone, IsCutOff, items_of as items_in};
 ghost use Rattle.ln_node_loops.specs.Course.{segment, next_of, Tells};

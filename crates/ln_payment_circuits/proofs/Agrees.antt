@@ -11,7 +11,7 @@ use Rattle.ln_channel.specs.End.{End}
 use Rattle.ln_book_tables.specs.declared.htlc.Key.{Key}
 use Rattle.ln_book_tables.specs.declared.htlc.Htlc.{Htlc}
 use Rattle.ln_book_tables.specs.Replay.{same_key, is_htlc, left_out, decide, is_over}
-use Rattle.ln_book.specs.declared.leg.Leg.{Leg}
+use Rattle.ln_book.specs.declared.recovery.leg.Leg.{Leg}
 use Rattle.ln_book.specs.Rebuild.{ChannelSnapshot, channel_snapshot_of, led, unfinished, all_unfinished}
 use Rattle.ln_book.specs.Rebuild.{htlc_left, left, all_left}
 use Rattle.ln_book.specs.Rebuild.{is_read}

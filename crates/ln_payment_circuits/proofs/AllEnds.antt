@@ -18,7 +18,7 @@ use Rattle.ln_book_tables.specs.declared.htlc.IncomingLeg.TheVariants as incomin
 use Rattle.ln_book_tables.specs.declared.htlc.Htlc.{Htlc}
 use Rattle.ln_log.specs.Mark.{is_held}
 use Rattle.ln_book_tables.specs.Replay.{same, same_key, is_htlc, has_no_outgoing, is_settled, is_over}
-use Rattle.ln_book.specs.declared.leg.Leg.{Leg}
+use Rattle.ln_book.specs.declared.recovery.leg.Leg.{Leg}
 use Rattle.ln_book.specs.Rebuild.{ChannelSnapshot, channel_snapshot_of, is_for, or_leg, result_for, offer_for}
 use Rattle.ln_book.specs.Rebuild.{outgoing_along, outgoing_for}
 use Rattle.ln_book.specs.Rebuild.{outgoing_read, led, unfinished, all_unfinished, is_read, htlc_left, left}

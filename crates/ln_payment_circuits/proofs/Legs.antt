@@ -24,7 +24,7 @@ use Rattle.ln_hooks.specs.declared.event.How.{How}
 use Rattle.ln_hooks.specs.declared.event.How.TheVariants as how
 use Rattle.ln_book_tables.specs.declared.htlc.Key.{Key}
 use Rattle.ln_book_tables.specs.declared.htlc.OutgoingLeg.TheVariants as outgoing
-use Rattle.ln_book.specs.declared.leg.Leg.{Leg}
+use Rattle.ln_book.specs.declared.recovery.leg.Leg.{Leg}
 use Rattle.ln_book_tables.specs.Replay.{same_key}
 use Rattle.ln_book.specs.Kept.{own_window, own_updates}
 use Rattle.ln_book.specs.Rebuild.{key_at, key_of, leg_from, leg_of, legs_offered, how_of, leg_resolved}

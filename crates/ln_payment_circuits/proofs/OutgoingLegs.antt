@@ -11,7 +11,7 @@ use Rattle.ln_hooks.specs.declared.event.How.{How}
 use Rattle.ln_channel.specs.End.{End}
 use Rattle.ln_book_tables.specs.declared.htlc.Key.{Key}
 use Rattle.ln_book_tables.specs.declared.htlc.OutgoingLeg.TheVariants as outgoing
-use Rattle.ln_book.specs.declared.leg.Leg.{Leg}
+use Rattle.ln_book.specs.declared.recovery.leg.Leg.{Leg}
 use Rattle.ln_book.specs.Rebuild.{ChannelSnapshot, channel_snapshot_of, is_for, or_leg, result_for, offer_for}
 use Rattle.ln_book.specs.Rebuild.{outgoing_along, outgoing_for}
 use Rattle.ln_book.specs.Rebuild.{legs_resolved}

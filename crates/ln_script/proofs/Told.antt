@@ -8,8 +8,8 @@ use Rattle.ln_refusals.specs.declared.refusal.Refusal.{Refusal}
 use Rattle.ln_refusals.specs.declared.refusal.Refusal.TheVariants.{Memory}
 use Rattle.ln_msgs.specs.Messages.Message.{Heard, message_at}
 use Rattle.ln_refusals.specs.Refusal.{refusal_of}
-use Rattle.ln_script.specs.declared.program_error.ProgramError.{ProgramError}
-use Rattle.ln_script.specs.declared.program_error.ProgramError.TheVariants.{NotHex, Refused}
+use Rattle.ln_script.specs.declared.program.program_error.ProgramError.{ProgramError}
+use Rattle.ln_script.specs.declared.program.program_error.ProgramError.TheVariants.{NotHex, Refused}
 use Rattle.ln_text.specs.MessageText.{heard_text}
 use Rattle.ln_script.specs.Text.{read_text, spelled_text, decoded}
 

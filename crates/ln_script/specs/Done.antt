@@ -12,10 +12,10 @@ use Rattle.ln_script.specs.Hook.{SaysOf}
 use Rattle.ln_script.specs.Step.{ToyStep}
 use Rattle.ln_script.specs.Script.{script_at, script_hooks}
 use Rattle.ln_script.specs.Report.{ReportsScript, ReportsScriptPartly}
-use Rattle.ln_script.specs.declared.choice.Choice.{Choice}
-use Rattle.ln_script.specs.declared.choice.Choice.TheVariants as choice
-use Rattle.ln_script.specs.declared.program_error.ProgramError.{ProgramError}
-use Rattle.ln_script.specs.declared.program_error.ProgramError.TheVariants.{Refused}
+use Rattle.ln_script.specs.declared.program.choice.Choice.{Choice}
+use Rattle.ln_script.specs.declared.program.choice.Choice.TheVariants as choice
+use Rattle.ln_script.specs.declared.program.program_error.ProgramError.{ProgramError}
+use Rattle.ln_script.specs.declared.program.program_error.ProgramError.TheVariants.{Refused}
 use Rattle.ln_script.specs.Printed.{Prints, PrintsPartly}
 use Rattle.ln_script.specs.Text.{decoded}
 

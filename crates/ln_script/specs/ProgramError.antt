@@ -1,7 +1,7 @@
 -- The exit status of each error of the program.
 use Rattle.std.specs.Prelude.{ℕ}
-use Rattle.ln_script.specs.declared.program_error.ProgramError.{ProgramError}
-use Rattle.ln_script.specs.declared.program_error.ProgramError.TheVariants.{Usage, NotHex, Refused}
+use Rattle.ln_script.specs.declared.program.program_error.ProgramError.{ProgramError}
+use Rattle.ln_script.specs.declared.program.program_error.ProgramError.TheVariants.{Usage, NotHex, Refused}
 
 abbrev pub status_of : ProgramError → ℕ
 status_of Usage = 2

@@ -6,8 +6,8 @@ use Rattle.ln_bytes.specs.declared.fault.Fault.{Fault}
 use Rattle.ln_msgs.specs.Messages.Message.{Heard, message_at}
 use Rattle.ln_refusals.specs.Refusal.{refusal_of}
 use Rattle.ln_text.specs.MessageText.{heard_text}
-use Rattle.ln_script.specs.declared.program_error.ProgramError.{ProgramError}
-use Rattle.ln_script.specs.declared.program_error.ProgramError.TheVariants.{NotHex, Refused}
+use Rattle.ln_script.specs.declared.program.program_error.ProgramError.{ProgramError}
+use Rattle.ln_script.specs.declared.program.program_error.ProgramError.TheVariants.{NotHex, Refused}
 
 abbrev pub read_text : Result Heard Fault → Result (List ℕ) ProgramError
 read_text (Ok h) = Ok (heard_text h)

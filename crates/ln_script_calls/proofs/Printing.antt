@@ -1,6 +1,6 @@
 -- What a command prints, by equal bytes of its reader and its writer.
 use Rattle.std.proofs.Common.{◌≡◌, ℕ, List, [], Option, Some, Result, Ok, Err, OnOk, OnErr, subst}
-use Rattle.ln_script.specs.declared.choice.Choice.{Choice}
+use Rattle.ln_script.specs.declared.program.choice.Choice.{Choice}
 use Rattle.ln_script.specs.Done.{Does, DoesPartly}
 use Rattle.ln_script_calls.specs.Passing.{IsPrinted}
 

@@ -1,6 +1,6 @@
 -- Which reports a command may print.
 use Rattle.std.specs.Prelude.{◌≡◌, ◌⊎◌, ℕ, List, [], ◌++◌, codes, Option, Some}
-use Rattle.ln_script.specs.declared.choice.Choice.{Choice}
+use Rattle.ln_script.specs.declared.program.choice.Choice.{Choice}
 use Rattle.ln_script.specs.Done.{Does, DoesPartly}
 
 -- all that a command prints with this on its input; of a script one of the reports that `ReportsScript` allows

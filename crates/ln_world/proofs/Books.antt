@@ -17,7 +17,7 @@ use Rattle.ln_book_tables.specs.declared.entry.Entry.TheVariants as entry
 use Rattle.ln_book_tables.specs.Replay.{Table, after, table_of}
 use Rattle.ln_world.specs.declared.node.NodeBook.{NodeBook}
 use Rattle.ln_world.specs.Node.{Book, new_node, node_at, changed}
-use Rattle.ln_book.specs.declared.uses.Use.{Use}
+use Rattle.ln_book.specs.declared.switch.uses.Use.{Use}
 use Rattle.ln_book.specs.Uses.{use_of, with_route}
 use Rattle.ln_world.specs.Follow.{with_end, with_side, with_channel, followed_below, followed}
 

@@ -14,7 +14,7 @@ use Rattle.ln_hooks.specs.declared.event.How.{How}
 use Rattle.ln_channel.specs.End.{End as ChannelEnd}
 use Rattle.ln_book_tables.specs.declared.htlc.Htlc.{Htlc}
 use Rattle.ln_book_tables.specs.Replay.{table_of, is_over}
-use Rattle.ln_book.specs.declared.leg.Leg.{Leg}
+use Rattle.ln_book.specs.declared.recovery.leg.Leg.{Leg}
 use Rattle.ln_book.specs.Rebuild.{ChannelSnapshot, channel_snapshot_of, no_event, key_of as key_from}
 use Rattle.ln_book.specs.Rebuild.{leg_resolved, legs_resolved, how_of}
 use Rattle.ln_book.specs.Rebuild.{peer_updates, incoming_in}

@@ -39,7 +39,7 @@ use Rattle.ln_book_tables.specs.Replay.{Table, replay, table_of, is_over}
 use Rattle.ln_channel_laws.specs.Widths.{IsOrigin, IsMark, IsAdd, IsUpdate}
 use Rattle.ln_channel_laws.proofs.Offered.{All, all-append, all-take, all-drop, all-when, Where, Does, IsDecision}
 use Rattle.ln_channel_laws.proofs.Offered.{IsSettlement}
-use Rattle.ln_book.specs.declared.leg.Leg.{Leg}
+use Rattle.ln_book.specs.declared.recovery.leg.Leg.{Leg}
 use Rattle.ln_book.specs.Kept.{own_window, own_updates}
 use Rattle.ln_book.specs.Rebuild.{ChannelSnapshot, leg_from, leg_of, legs_offered, how_of, leg_resolved}
 use Rattle.ln_book.specs.Rebuild.{legs_resolved}
@@ -56,7 +56,7 @@ use Rattle.ln_world_dispatch.specs.World.{item, named_at, undecided}
 use Rattle.ln_world.specs.declared.node.NodeBook.{NodeBook}
 use Rattle.ln_world.specs.Node.{Book}
 use Rattle.ln_world.specs.BookReports.{with_event, with_events, with_held, event_count}
-use Rattle.ln_book.specs.declared.uses.Use.{Use}
+use Rattle.ln_book.specs.declared.switch.uses.Use.{Use}
 use Rattle.ln_book.specs.Uses.{use_of, with_route}
 use Rattle.ln_book.specs.Snapshots.{snapshot_by}
 use Rattle.ln_world.specs.Follow.{with_end, with_side, with_channel, followed_below}

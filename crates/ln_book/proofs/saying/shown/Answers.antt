@@ -1,6 +1,0 @@
-use Rattle.std.proofs.Common.{ap}
-use Rattle.ln_book.specs.Value.{of_value}
-use Rattle.ln_book.proofs.saying.shown.Goals as goal
-
-pub returns : goal.returns
-returns g c = ap of_value c.of.ensures
