@@ -21,35 +21,45 @@ fn shown(alloc: Global, words: &[&str]) -> Result<String, Fail> {
     Ok(text)
 }
 
+/// The same of words that bars part.
+fn shown_of(alloc: Global, line: &str) -> Result<String, Fail> {
+    let mut words = Vec::new(alloc);
+    for word in line.split('|') {
+        words.push(word)?;
+    }
+    shown(alloc, words.as_slice())
+}
+
 #[test]
 fn command_lines(rt: HostRuntime) -> Result<(), Fail> {
-    for (words, text) in [
-        (["answer"].as_slice(), "answer"),
-        (["sim"].as_slice(), "sim"),
-        (["demo"].as_slice(), "demo"),
-        (["demo", "more"].as_slice(), "usage"),
-        (["decode", "0015"].as_slice(), "0015"),
-        (["decode", " 0015"].as_slice(), " 0015"),
-        (["decode", ""].as_slice(), ""),
-        (["decode", "-"].as_slice(), "-"),
-        (["decode"].as_slice(), "usage"),
-        (["decode", "00", "11"].as_slice(), "usage"),
-        (["sim", "more"].as_slice(), "usage"),
-        ([].as_slice(), "usage"),
-        ([""].as_slice(), "usage"),
-        (["answers"].as_slice(), "usage"),
-        (["answer", "more"].as_slice(), "usage"),
-        (["Answer"].as_slice(), "usage"),
-        (["--help"].as_slice(), "usage"),
-        (["-h"].as_slice(), "usage"),
-        (["help"].as_slice(), "usage"),
-        (["answer", "--help"].as_slice(), "usage"),
-        (["decode", "-h"].as_slice(), "usage"),
-        (["--version"].as_slice(), "usage"),
+    for (line, text) in [
+        ("answer", "answer"),
+        ("sim", "sim"),
+        ("demo", "demo"),
+        ("demo|more", "usage"),
+        ("decode|0015", "0015"),
+        ("decode| 0015", " 0015"),
+        ("decode|", ""),
+        ("decode|-", "-"),
+        ("decode", "usage"),
+        ("decode|00|11", "usage"),
+        ("sim|more", "usage"),
+        ("", "usage"),
+        ("answers", "usage"),
+        ("answer|more", "usage"),
+        ("Answer", "usage"),
+        ("--help", "usage"),
+        ("-h", "usage"),
+        ("help", "usage"),
+        ("answer|--help", "usage"),
+        ("decode|-h", "usage"),
+        ("--version", "usage"),
     ] {
-        let got = shown(rt.alloc(), words)?;
-        assert_eq!(rt; got.as_str(), text, "{text}");
+        let got = shown_of(rt.alloc(), line)?;
+        assert_eq!(rt; got.as_str(), text, "{line}");
     }
+    let got = shown(rt.alloc(), &[])?;
+    assert_eq!(rt; got.as_str(), "usage");
     Ok(())
 }
 
