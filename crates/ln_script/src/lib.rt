@@ -25,7 +25,6 @@ pub use print::print_all;
 pub use program::choice::Choice;
 pub use program::commands::perform;
 pub use program::program_error::ProgramError;
-pub use program::simulation::{script_text, simulate};
 pub use program::text::decode_text;
 pub use reading::{hook_lines, read_script};
 pub use report::print_report;

@@ -4,5 +4,4 @@ pub(crate) mod choice;
 pub(crate) mod commands;
 pub(crate) mod input;
 pub(crate) mod program_error;
-pub(crate) mod simulation;
 pub(crate) mod text;

@@ -13,11 +13,11 @@ ghost use Rattle.ln_script.specs.Done.{script_in, Simulates, SimulatesPartly, Do
 
 use crate::print::print_all;
 use crate::program::choice::Choice;
-use crate::program::input::read_all;
+use crate::program::input::{read_all, script_text};
 use crate::program::program_error::ProgramError;
-use crate::program::simulation::{script_text, simulate};
 use crate::program::text::decode_text;
 use crate::reading::hook_lines;
+use crate::running::report_script;
 use ln_msgs::{Counted, answer_pings};
 use ln_refusals::Refusal;
 use std::alloc::Global;
@@ -65,7 +65,7 @@ fn print_decoded<W: Write>(
     Ok(())
 }
 
-/// Runs a script with the hooks that its lines ask for, and writes its report (`simulate`).
+/// Runs a script with the hooks that its lines ask for, and writes its report (`report_script`).
 fn simulate_text<W: Write>(
     alloc: Global,
     text: &str,
@@ -80,11 +80,12 @@ fn simulate_text<W: Write>(
         ⊎ ((line : ℕ) × (f ≡ ProgramError.Refused (BadScript line)) × (script_at text.now ≡ Err line))) }
 {
     let hooks = hook_lines(alloc, text)?;
-    simulate(alloc, text, hooks, writer)?;
+    report_script(alloc, text, hooks, writer)?;
     Ok(())
 }
 
-/// Runs the script that these bytes are, and writes its report (`simulate`). 64 with line 0 where they aren't UTF-8.
+/// Runs the script that these bytes are, and writes its report (`report_script`). 64 with line 0 where they aren't
+/// UTF-8.
 fn simulate_bytes<W: Write>(
     alloc: Global,
     bytes: &[u8],
@@ -125,9 +126,9 @@ fn simulate_input<R: Read, W: Write>(
 
 /// Does what a command is for, and flushes what it has written. Takes memory.
 ///
-/// Errors: those of `ln_msgs::answer_pings`, `decode_text` and `simulate` by the number of the refusal; 63 also where
-/// a script can't be read. 63 comes only where a call of the reader or the writer failed, or after 2^64 - 1 of them.
-/// What was written by then is a beginning.
+/// Errors: those of `ln_msgs::answer_pings`, `decode_text` and `report_script` by the number of the refusal; 63 also
+/// where a script can't be read. 63 comes only where a call of the reader or the writer failed, or after 2^64 - 1 of
+/// them. What was written by then is a beginning.
 pub fn perform<R: Read, W: Write>(
     alloc: Global,
     choice: Choice,

@@ -1,11 +1,13 @@
-//! All of an input.
+//! All of an input, and the text that it is.
 
 ghost use Rattle.std.specs.Prelude.{◌≡◌, ◌≤◌, ◌<◌, ◌⊎◌, ◌^◌, length, Ok, true, false, OnOk, IfOk, IfErr, IfSome};
+ghost use Rattle.std.specs.Str.{is_utf8};
 ghost use Rattle.std.specs.Io.KnownBytes.{Keeps, IsAtEnd, prepend_known};
-ghost use Rattle.ln_refusals.specs.declared.refusal.Refusal.TheVariants.{Memory, Io};
+ghost use Rattle.ln_refusals.specs.declared.refusal.Refusal.TheVariants.{Memory, Io, BadScript};
 ghost use Rattle.ln_msgs.specs.Pings.Counted.{HasRisen};
 ghost use Rattle.ln_msgs.specs.Pings.CountedView.{inner_of, failures_of};
 
+use crate::program::program_error::ProgramError;
 use ln_msgs::Counted;
 use ln_refusals::Refusal;
 use std::alloc::Global;
@@ -49,4 +51,15 @@ pub fn read_all<R: Read>(alloc: Global, reader: &mut Counted<R>) -> Result<Vec<u
     let mut bytes = Vec::new(alloc);
     'reads: while read_piece(reader, &mut bytes)? {}
     Ok(bytes)
+}
+
+/// The text of a script: its bytes, where they are UTF-8. 64 with line 0 where they aren't.
+pub(crate) fn script_text(bytes: &[u8]) -> Result<&str, ProgramError>
+    ensures gives_the_bytes { IfOk result (λ text. (is_utf8 bytes.now ≡ true) × (text.now ≡ bytes.now)) }
+    ensures refused { IfErr result (λ f. (is_utf8 bytes.now ≡ false) × (f ≡ ProgramError.Refused (BadScript 0))) }
+{
+    match str::from_utf8(bytes) {
+        Ok(text) => Ok(text),
+        Err(_) => Err(ProgramError::Refused(Refusal::BadScript { line: 0 })),
+    }
 }

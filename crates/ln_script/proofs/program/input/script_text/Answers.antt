@@ -1,7 +1,7 @@
 use Rattle.std.proofs.Common.{refl}
 use Rattle.std.proofs.lemmas.Str.{is_utf8-from_IsUtf8}
 use Rattle.ln_script.proofs.Printing.{no_utf8}
-use Rattle.ln_script.proofs.program.simulation.script_text.Goals as goal
+use Rattle.ln_script.proofs.program.input.script_text.Goals as goal
 
 pub returns-in-Ok-clause-gives_the_bytes : goal.returns-in-Ok-clause-gives_the_bytes
 returns-in-Ok-clause-gives_the_bytes c =
