@@ -1,7 +1,6 @@
 //! A store in memory whose saves are made to fail from outside.
 
-ghost use Rattle.std.specs.Prelude.{◌≡◌};
-
+use crate::failing_store::FailingStore;
 use crate::gauge::{Gauge, Gauged, is_due};
 use ln_bytes::Bytes;
 use ln_refusals::Refusal;
@@ -13,50 +12,41 @@ use std::sync::atomic::Ordering;
 /// Records in memory. The save that its gauge names fails, and leaves the old record or the new one.
 #[derive(Drop)]
 pub struct FailingRecords {
-    inner: MemoryStore,
-    failed: u64,
+    store: FailingStore<MemoryStore>,
     gauge: Arc<Gauge>,
 }
 
 impl Gauged for FailingRecords {
     fn gauged(alloc: Global, gauge: &Arc<Gauge>) -> Result<FailingRecords, AllocError> {
-        Ok(FailingRecords {
-            inner: MemoryStore::new(alloc),
-            failed: 0,
-            gauge: Arc::try_clone(gauge)?,
-        })
+        let gauge = Arc::try_clone(gauge)?;
+        let store = FailingStore::new(MemoryStore::new(alloc), u64::MAX, false);
+        Ok(FailingRecords { store, gauge })
     }
 }
 
 impl RecordStore for FailingRecords {
-    ghost records = { λ s. s.inner };
+    ghost records = { λ s. s.store.inner };
 
-    ghost failed = { λ s. s.failed };
+    ghost failed = { λ s. s.store.failed };
 
     fn save(&mut self, alloc: Global, id: &[u8; 32], bytes: &[u8]) -> Result<(), Refusal> {
         self.gauge.stirs();
-        let fails = is_due(&self.gauge.save);
-        if !fails || self.gauge.leaves_new.load(Ordering::SeqCst) != 0 {
-            if let Err(refusal) = self.inner.save(alloc, id, bytes) {
-                return Err(refusal);
-            }
+        if is_due(&self.gauge.save) {
+            self.store.saves_left = 0;
+            self.store.leaves_new = self.gauge.leaves_new.load(Ordering::SeqCst) != 0;
         }
-        if fails {
-            self.failed = self.failed.saturating_add(1);
-            return Err(Refusal::Store);
-        }
-        Ok(())
+        self.store.save(alloc, id, bytes)
     }
 
     fn load(&mut self, alloc: Global, id: &[u8; 32]) -> Result<Option<Bytes>, Refusal> {
-        self.inner.load(alloc, id)
+        self.store.load(alloc, id)
     }
 
     fn ids(&mut self, alloc: Global) -> Result<Vec<[u8; 32]>, Refusal> {
-        self.inner.ids(alloc)
+        self.store.ids(alloc)
     }
 
     fn failures(&self) -> u64 {
-        self.failed
+        self.store.failures()
     }
 }

@@ -13,10 +13,10 @@ use std::alloc::Global;
 /// Those behind it don't.
 #[derive(Drop)]
 pub struct FailingStore<S: RecordStore + Drop> {
-    inner: S,
-    saves_left: u64,
-    leaves_new: bool,
-    failed: u64,
+    pub(crate) inner: S,
+    pub(crate) saves_left: u64,
+    pub(crate) leaves_new: bool,
+    pub(crate) failed: u64,
 }
 
 impl<S: RecordStore + Drop> FailingStore<S> {
