@@ -4,7 +4,7 @@ use crate::sql_store::SqliteStore;
 use ln_bytes::Bytes;
 use ln_refusals::Refusal;
 use ln_store::RecordStore;
-use sqlite::{Connection, FileStore};
+use sqlite::{Alter, Connection, FileStore};
 use sqlite_std_file::File;
 use std::alloc::Global;
 
@@ -22,10 +22,13 @@ impl Drop for FileRecords {
     }
 }
 
-// What is left of a failure that gives something back.
-fn refusal_of<T, B: Drop>(done: Result<T, (Refusal, B)>) -> Result<T, Refusal> {
-    match done {
-        Ok(value) => Ok(value),
+// A store over a database, or why there is none: the connection is let go.
+fn over<S: Alter + Drop>(
+    alloc: Global,
+    connection: Connection<S>,
+) -> Result<SqliteStore<S>, Refusal> {
+    match SqliteStore::over(alloc, connection) {
+        Ok(store) => Ok(store),
         Err((refusal, _)) => Err(refusal),
     }
 }
@@ -41,7 +44,7 @@ impl FileRecords {
         let Ok(connection) = Connection::open(rt, path) else {
             return Err(Refusal::Store);
         };
-        let store = refusal_of(SqliteStore::over(rt.alloc(), connection))?;
+        let store = over(rt.alloc(), connection)?;
         Ok(FileRecords { store })
     }
 
@@ -72,6 +75,6 @@ impl RecordStore for FileRecords {
     }
 
     fn failures(&self) -> u64 {
-        self.store.failures()
+        self.store.failures
     }
 }

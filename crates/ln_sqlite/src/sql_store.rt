@@ -25,7 +25,7 @@ use std::alloc::Global;
 pub struct SqliteStore<S: Alter> {
     connection: Connection<S>,
     copies: Copies,
-    failures: u64,
+    pub(crate) failures: u64,
 }
 
 /// One failure more, or as many as can be counted.
