@@ -1,5 +1,5 @@
 -- What an end is opened with, and which values may be used (BOLT 2, "Channel Establishment v1").
-use Rattle.std.specs.Prelude.{ℕ, ◌≤◌, length}
+use Rattle.std.specs.Prelude.{ℕ, ◌≤◌, List, length}
 use Rattle.ln_bytes.specs.Tlv.{stream_bytes}
 use Rattle.ln_msgs.specs.Messages.Table.{open_form}
 use Rattle.ln_msgs.specs.Codec.Writing.{MayFollow}
@@ -44,3 +44,7 @@ pub record IsFitSpec (s : OpenSpec) : Type 0 where
   pub opening : IsFit (offered s s.config.limits)
   pub records : MayFollow open_form s.records
   pub length : length (stream_bytes s.records) ≤ longest_records
+
+-- Another transaction's output funds the channel.
+abbrev pub with_funding : List ℕ → ℕ → OpenSpec → OpenSpec
+with_funding txid output s = record s { txid = txid; output = output }

@@ -18,6 +18,7 @@ pub mod Past
 pub mod Naming
 pub mod Step
 pub mod Summary
+pub mod Asking
 pub use Rattle.ln_hooks.specs.Event
 pub use Rattle.ln_dance.specs.Dance
 pub use Rattle.ln_close.specs.Closing

@@ -274,7 +274,7 @@ impl Clone for FitSpec {
 
 impl FitSpec {
     ghost use Rattle.std.specs.Prelude.{◌≡◌};
-    ghost use Rattle.ln_channel.specs.Config.{IsFitSpec};
+    ghost use Rattle.ln_channel.specs.Config.{IsFitSpec, with_funding};
 
     /// A spec that `OpenSpec::fits` tells to fit. Takes no memory.
     pub fn new(spec: OpenSpec) -> FitSpec
@@ -282,6 +282,14 @@ impl FitSpec {
         ensures { result ≡ spec }
     {
         FitSpec { spec }
+    }
+
+    /// Another funding than it has; nothing else changes. Takes no memory.
+    pub fn name_funding(&mut self, txid: [u8; 32], output: u16)
+        ensures { self.new ≡ with_funding txid output self.old }
+    {
+        self.spec.txid = txid;
+        self.spec.output = output;
     }
 
     /// The spec. Takes no memory.

@@ -2,6 +2,7 @@
 //! each command makes of it, and what it hands out (BOLT 2). The link that saves is ln_link's.
 #![tactic(auto)]
 
+mod asking;
 mod base;
 mod channel;
 mod command;

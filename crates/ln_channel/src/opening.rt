@@ -21,7 +21,7 @@ use crate::config::{Config, FitConfig, FitSpec, OpenSpec};
 use ln_bytes::{Bytes, Record, value_of};
 use ln_close::{Closing, Fees};
 use ln_dance::{Dance, Later, Numbers, Peer};
-use ln_keys::{ChannelKeys, Role};
+use ln_keys::{ChannelKeys, Role, View};
 use ln_log::{Limits, Opening, Pair, Side, UpdateLog};
 use ln_msgs::{AcceptChannel, FundingCreated, FundingSigned, OpenChannel, Records, channel_id};
 use ln_refusals::Refusal;
@@ -71,14 +71,25 @@ impl Model for Agreed {
 }
 
 impl Agreed {
-    ghost use Rattle.std.specs.Prelude.{◌≡◌};
+    ghost use Rattle.std.specs.Prelude.{◌≡◌, IfOk, IfErr};
     ghost use Rattle.ln_bytes.specs.Same.{are_same};
+    ghost use Rattle.ln_refusals.specs.declared.refusal.Refusal.TheVariants as refusal;
+    ghost use Rattle.ln_channel.specs.Asking.{first_worth};
 
     // The channel's id until its funding is named.
     pub(crate) fn temporary_id(&self) -> [u8; 32]
         ensures { result ≡ self.now.terms.open_channel.temporary_id }
     {
         self.terms.open_channel.temporary_id
+    }
+
+    // What commitment 0 will be worth.
+    pub(crate) fn first_view(&self, alloc: Global) -> Result<View, Refusal>
+        ensures view { IfOk result (λ v. v ≡ first_worth self.now) }
+        ensures fails_for_memory_alone { IfErr result (λ r. r ≡ refusal.Memory) }
+    {
+        let dance = first_dance(alloc, Role::Fundee, [0; 32], &self.terms);
+        dance.log().view(alloc, Pair::Current(Side::Own))
     }
 
     // Whether a funding_created is of this channel.

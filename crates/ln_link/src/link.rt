@@ -206,6 +206,7 @@ fn is_known<S: RecordStore>(
 impl<K: ChannelKeys + Drop> Link<K> {
     ghost use Rattle.std.specs.Prelude.{◌&&◌, IsErrOf, Ok, true};
     ghost use Rattle.ln_channel.specs.Pending.{pending_at};
+    ghost use Rattle.ln_channel.specs.Asking.{with_named, naming_answer};
     ghost use Rattle.ln_channel.specs.declared.machine.Stage.TheVariants as stage;
     ghost use Rattle.ln_channel.specs.State.{State, StandsFor, KeepsChannel, begun, drops, halts};
     ghost use Rattle.ln_channel.specs.Step.{Answered, connected, handled, commanded};
@@ -266,6 +267,25 @@ impl<K: ChannelKeys + Drop> Link<K> {
         ensures { IsCameBack self.old.keys other.now self.new }
     {
         self.channel_machine.take_past_of(&other.channel_machine);
+    }
+
+    /// Other keys from now on: `ChannelMachine::set_keys`. No record has keys, so nothing is saved.
+    pub fn set_keys(&mut self, keys: K)
+        ensures state { (l : State K) → StandsFor self.old l → StandsFor self.new (record l { keys = keys }) }
+        ensures same_channel { KeepsChannel self.old.stage self.new.stage }
+    {
+        self.channel_machine.set_keys(keys);
+    }
+
+    /// Names the funding, until `accept_channel` is taken: `ChannelMachine::name_funding`. Nothing is saved, as no
+    /// opening is until both have signed it.
+    pub fn name_funding(&mut self, txid: [u8; 32], output: u16) -> Result<(), Refusal>
+        ensures answer { (l : State K) → StandsFor self.old l → result ≡ naming_answer l.stage }
+        ensures state { (l : State K) → StandsFor self.old l
+            → StandsFor self.new (record l { stage = with_named txid output l.stage }) }
+        ensures same_channel { KeepsChannel self.old.stage self.new.stage }
+    {
+        self.channel_machine.name_funding(txid, output)
     }
 
     /// What the link is; it saves nothing, so only to be looked at. Takes no memory.

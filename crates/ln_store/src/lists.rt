@@ -28,8 +28,8 @@ fn items_at<T: Stored + Drop>(
     Ok((items, rest))
 }
 
-// The list at the front of the bytes: a count in eight bytes, and the values.
-pub(crate) fn list_at<T: Stored + Drop>(
+/// The list at the front of the bytes: a count in eight bytes, and the values.
+pub fn list_at<T: Stored + Drop>(
     alloc: Global,
     bytes: &[u8],
 ) -> Result<(Listed<T>, &[u8]), Refusal>
@@ -40,8 +40,8 @@ pub(crate) fn list_at<T: Stored + Drop>(
     Ok((Listed::new(items), rest))
 }
 
-// What may be there: a zero byte for none, else a one and the value.
-pub(crate) fn optional_at<T: Stored + Drop>(
+/// What may be there: a zero byte for none, else a one and the value.
+pub fn optional_at<T: Stored + Drop>(
     alloc: Global,
     bytes: &[u8],
 ) -> Result<(Option<T>, &[u8]), Refusal>
@@ -69,8 +69,8 @@ fn put_items<T: Stored>(out: &mut Vec<u8>, items: &[T]) -> Result<(), Refusal>
     Ok(())
 }
 
-// Writes the count of the values, and the values.
-pub(crate) fn put_list<T: Stored>(out: &mut Vec<u8>, items: &[T]) -> Result<(), Refusal>
+/// Writes the count of the values, and the values.
+pub fn put_list<T: Stored>(out: &mut Vec<u8>, items: &[T]) -> Result<(), Refusal>
     requires { list_all T.format.fits items.now ≡ true }
     ensures appends_them { OnOk result (out.new.items ≡ out.old.items ++ (listed T.format).bytes items.now) }
     ensures fails_for_memory_alone { IfErr result (λ e. e ≡ Refusal.Memory) }
@@ -79,8 +79,8 @@ pub(crate) fn put_list<T: Stored>(out: &mut Vec<u8>, items: &[T]) -> Result<(), 
     put_items(out, items)
 }
 
-// Writes a zero byte for none, else a one and the value.
-pub(crate) fn put_optional<T: Stored>(out: &mut Vec<u8>, value: &Option<T>) -> Result<(), Refusal>
+/// Writes a zero byte for none, else a one and the value.
+pub fn put_optional<T: Stored>(out: &mut Vec<u8>, value: &Option<T>) -> Result<(), Refusal>
     requires { (optionally T.format).fits value.now ≡ true }
     ensures appends_it { OnOk result (out.new.items ≡ out.old.items ++ (optionally T.format).bytes value.now) }
     ensures fails_for_memory_alone { IfErr result (λ e. e ≡ Refusal.Memory) }
@@ -94,8 +94,8 @@ pub(crate) fn put_optional<T: Stored>(out: &mut Vec<u8>, value: &Option<T>) -> R
     }
 }
 
-// Whether each value has its form.
-pub(crate) fn list_fits<T: Stored>(items: &[T]) -> bool
+/// Whether each value has its form.
+pub fn list_fits<T: Stored>(items: &[T]) -> bool
     ensures { result ≡ (listed T.format).fits items.now }
 {
     (items.len() as u128) < 1 << 64 && items_fit(items)
@@ -112,8 +112,8 @@ fn items_fit<T: Stored>(items: &[T]) -> bool
     true
 }
 
-// Whether the value that may be there has its form.
-pub(crate) fn optional_fits<T: Stored>(value: &Option<T>) -> bool
+/// Whether the value that may be there has its form.
+pub fn optional_fits<T: Stored>(value: &Option<T>) -> bool
     ensures { result ≡ (optionally T.format).fits value.now }
 {
     match value {

@@ -9,7 +9,7 @@ use ln_refusals::Refusal;
 use std::alloc::Global;
 
 /// A value that is stored in one form.
-pub(crate) trait Stored: Sized {
+pub trait Stored: Sized {
     ghost use Rattle.ln_store.specs.Format.{Format};
 
     /// How it is written and read.
@@ -31,8 +31,8 @@ pub(crate) trait Stored: Sized {
         ensures fails_for_memory_alone { IfErr result (λ e. e ≡ Refusal.Memory) };
 }
 
-// One byte.
-pub(crate) fn u8_at(bytes: &[u8]) -> Result<(u8, &[u8]), Refusal>
+/// One byte.
+pub fn u8_at(bytes: &[u8]) -> Result<(u8, &[u8]), Refusal>
     ensures { Finds (λ x. (x.0, x.1.now)) result (number_in 1 bytes.now) }
 {
     match bytes {
@@ -41,8 +41,8 @@ pub(crate) fn u8_at(bytes: &[u8]) -> Result<(u8, &[u8]), Refusal>
     }
 }
 
-// Two bytes, the highest first.
-pub(crate) fn u16_at(bytes: &[u8]) -> Result<(u16, &[u8]), Refusal>
+/// Two bytes, the highest first.
+pub fn u16_at(bytes: &[u8]) -> Result<(u16, &[u8]), Refusal>
     ensures { Finds (λ x. (x.0, x.1.now)) result (number_in 2 bytes.now) }
 {
     if bytes.len() < 2 {
@@ -51,8 +51,8 @@ pub(crate) fn u16_at(bytes: &[u8]) -> Result<(u16, &[u8]), Refusal>
     Ok((BigEndian::read_u16(bytes), &bytes[2..]))
 }
 
-// Four bytes, the highest first.
-pub(crate) fn u32_at(bytes: &[u8]) -> Result<(u32, &[u8]), Refusal>
+/// Four bytes, the highest first.
+pub fn u32_at(bytes: &[u8]) -> Result<(u32, &[u8]), Refusal>
     ensures { Finds (λ x. (x.0, x.1.now)) result (number_in 4 bytes.now) }
 {
     if bytes.len() < 4 {
@@ -61,8 +61,8 @@ pub(crate) fn u32_at(bytes: &[u8]) -> Result<(u32, &[u8]), Refusal>
     Ok((BigEndian::read_u32(bytes), &bytes[4..]))
 }
 
-// Eight bytes, the highest first.
-pub(crate) fn u64_at(bytes: &[u8]) -> Result<(u64, &[u8]), Refusal>
+/// Eight bytes, the highest first.
+pub fn u64_at(bytes: &[u8]) -> Result<(u64, &[u8]), Refusal>
     ensures { Finds (λ x. (x.0, x.1.now)) result (number_in 8 bytes.now) }
 {
     if bytes.len() < 8 {
@@ -71,8 +71,8 @@ pub(crate) fn u64_at(bytes: &[u8]) -> Result<(u64, &[u8]), Refusal>
     Ok((BigEndian::read_u64(bytes), &bytes[8..]))
 }
 
-// So many bytes.
-pub(crate) fn array_at<const N: usize>(bytes: &[u8]) -> Result<([u8; N], &[u8]), Refusal>
+/// So many bytes.
+pub fn array_at<const N: usize>(bytes: &[u8]) -> Result<([u8; N], &[u8]), Refusal>
     ensures { Finds (λ x. (x.0, x.1.now)) result (bytes_at N bytes.now) }
 {
     match bytes.split_first_chunk::<N>() {
@@ -92,32 +92,32 @@ fn front_at(alloc: Global, len: u64, bytes: &[u8]) -> Result<(Bytes, &[u8]), Ref
     Ok((Bytes::from_slice(alloc, front)?, rest))
 }
 
-// Bytes behind their length in two bytes.
-pub(crate) fn short_at(alloc: Global, bytes: &[u8]) -> Result<(Bytes, &[u8]), Refusal>
+/// Bytes behind their length in two bytes.
+pub fn short_at(alloc: Global, bytes: &[u8]) -> Result<(Bytes, &[u8]), Refusal>
     ensures { Finds (λ x. (x.0, x.1.now)) result (sized_at 2 bytes.now) }
 {
     let (len, rest) = u16_at(bytes)?;
     front_at(alloc, u64::from(len), rest)
 }
 
-// Bytes behind their length in four bytes.
-pub(crate) fn medium_at(alloc: Global, bytes: &[u8]) -> Result<(Bytes, &[u8]), Refusal>
+/// Bytes behind their length in four bytes.
+pub fn medium_at(alloc: Global, bytes: &[u8]) -> Result<(Bytes, &[u8]), Refusal>
     ensures { Finds (λ x. (x.0, x.1.now)) result (sized_at 4 bytes.now) }
 {
     let (len, rest) = u32_at(bytes)?;
     front_at(alloc, u64::from(len), rest)
 }
 
-// Bytes behind their length in eight bytes.
-pub(crate) fn long_at(alloc: Global, bytes: &[u8]) -> Result<(Bytes, &[u8]), Refusal>
+/// Bytes behind their length in eight bytes.
+pub fn long_at(alloc: Global, bytes: &[u8]) -> Result<(Bytes, &[u8]), Refusal>
     ensures { Finds (λ x. (x.0, x.1.now)) result (sized_at 8 bytes.now) }
 {
     let (len, rest) = u64_at(bytes)?;
     front_at(alloc, len, rest)
 }
 
-// Writes bytes behind the others.
-pub(crate) fn put(out: &mut Vec<u8>, bytes: &[u8]) -> Result<(), Refusal>
+/// Writes bytes behind the others.
+pub fn put(out: &mut Vec<u8>, bytes: &[u8]) -> Result<(), Refusal>
     ensures appends_them { OnOk result (out.new.items ≡ out.old.items ++ bytes.now) }
     ensures fails_for_memory_alone { IfErr result (λ e. e ≡ Refusal.Memory) }
 {
@@ -125,7 +125,7 @@ pub(crate) fn put(out: &mut Vec<u8>, bytes: &[u8]) -> Result<(), Refusal>
     Ok(())
 }
 
-pub(crate) fn put_u8(out: &mut Vec<u8>, value: u8) -> Result<(), Refusal>
+pub fn put_u8(out: &mut Vec<u8>, value: u8) -> Result<(), Refusal>
     ensures appends_it { OnOk result (out.new.items ≡ out.old.items ++ (number 1).bytes value) }
     ensures fails_for_memory_alone { IfErr result (λ e. e ≡ Refusal.Memory) }
 {
@@ -133,29 +133,29 @@ pub(crate) fn put_u8(out: &mut Vec<u8>, value: u8) -> Result<(), Refusal>
     Ok(())
 }
 
-pub(crate) fn put_u16(out: &mut Vec<u8>, value: u16) -> Result<(), Refusal>
+pub fn put_u16(out: &mut Vec<u8>, value: u16) -> Result<(), Refusal>
     ensures appends_it { OnOk result (out.new.items ≡ out.old.items ++ (number 2).bytes value) }
     ensures fails_for_memory_alone { IfErr result (λ e. e ≡ Refusal.Memory) }
 {
     put(out, &value.to_be_bytes())
 }
 
-pub(crate) fn put_u32(out: &mut Vec<u8>, value: u32) -> Result<(), Refusal>
+pub fn put_u32(out: &mut Vec<u8>, value: u32) -> Result<(), Refusal>
     ensures appends_it { OnOk result (out.new.items ≡ out.old.items ++ (number 4).bytes value) }
     ensures fails_for_memory_alone { IfErr result (λ e. e ≡ Refusal.Memory) }
 {
     put(out, &value.to_be_bytes())
 }
 
-pub(crate) fn put_u64(out: &mut Vec<u8>, value: u64) -> Result<(), Refusal>
+pub fn put_u64(out: &mut Vec<u8>, value: u64) -> Result<(), Refusal>
     ensures appends_it { OnOk result (out.new.items ≡ out.old.items ++ (number 8).bytes value) }
     ensures fails_for_memory_alone { IfErr result (λ e. e ≡ Refusal.Memory) }
 {
     put(out, &value.to_be_bytes())
 }
 
-// Writes bytes behind their length in two bytes.
-pub(crate) fn put_short(out: &mut Vec<u8>, bytes: &[u8]) -> Result<(), Refusal>
+/// Writes bytes behind their length in two bytes.
+pub fn put_short(out: &mut Vec<u8>, bytes: &[u8]) -> Result<(), Refusal>
     requires { length bytes.now < 256 ^ 2 }
     ensures appends_them { OnOk result (out.new.items ≡ out.old.items ++ (sized 2).bytes bytes.now) }
     ensures fails_for_memory_alone { IfErr result (λ e. e ≡ Refusal.Memory) }
@@ -164,8 +164,8 @@ pub(crate) fn put_short(out: &mut Vec<u8>, bytes: &[u8]) -> Result<(), Refusal>
     put(out, bytes)
 }
 
-// Writes bytes behind their length in four bytes.
-pub(crate) fn put_medium(out: &mut Vec<u8>, bytes: &[u8]) -> Result<(), Refusal>
+/// Writes bytes behind their length in four bytes.
+pub fn put_medium(out: &mut Vec<u8>, bytes: &[u8]) -> Result<(), Refusal>
     requires { length bytes.now < 256 ^ 4 }
     ensures appends_them { OnOk result (out.new.items ≡ out.old.items ++ (sized 4).bytes bytes.now) }
     ensures fails_for_memory_alone { IfErr result (λ e. e ≡ Refusal.Memory) }
@@ -174,8 +174,8 @@ pub(crate) fn put_medium(out: &mut Vec<u8>, bytes: &[u8]) -> Result<(), Refusal>
     put(out, bytes)
 }
 
-// Writes bytes behind their length in eight bytes.
-pub(crate) fn put_long(out: &mut Vec<u8>, bytes: &[u8]) -> Result<(), Refusal>
+/// Writes bytes behind their length in eight bytes.
+pub fn put_long(out: &mut Vec<u8>, bytes: &[u8]) -> Result<(), Refusal>
     ensures appends_them { OnOk result (out.new.items ≡ out.old.items ++ (sized 8).bytes bytes.now) }
     ensures fails_for_memory_alone { IfErr result (λ e. e ≡ Refusal.Memory) }
 {
@@ -183,26 +183,26 @@ pub(crate) fn put_long(out: &mut Vec<u8>, bytes: &[u8]) -> Result<(), Refusal>
     put(out, bytes)
 }
 
-// Each value of these types has its form.
-pub(crate) fn u16_fits(value: u16) -> bool
+/// Each value of these types has its form.
+pub fn u16_fits(value: u16) -> bool
     ensures { result ≡ (number 2).fits value }
 {
     true
 }
 
-pub(crate) fn u32_fits(value: u32) -> bool
+pub fn u32_fits(value: u32) -> bool
     ensures { result ≡ (number 4).fits value }
 {
     true
 }
 
-pub(crate) fn u64_fits(value: u64) -> bool
+pub fn u64_fits(value: u64) -> bool
     ensures { result ≡ (number 8).fits value }
 {
     true
 }
 
-pub(crate) fn array_fits<const N: usize>(bytes: &[u8; N]) -> bool
+pub fn array_fits<const N: usize>(bytes: &[u8; N]) -> bool
     ensures { result ≡ (fixed N).fits bytes.now }
 {
     true
