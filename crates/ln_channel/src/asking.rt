@@ -3,6 +3,7 @@
 use crate::channel::Channel;
 use crate::machine::{ChannelMachine, Stage};
 use ln_keys::{ChannelKeys, View};
+use ln_msgs::Message;
 use ln_refusals::Refusal;
 use std::alloc::Global;
 
@@ -30,7 +31,7 @@ impl Stage {
 impl<K: ChannelKeys + Drop> ChannelMachine<K> {
     ghost use Rattle.std.specs.Prelude.{◌≡◌, IfOk, IfErr, option_copied};
     ghost use Rattle.ln_channel.specs.State.{State, StandsFor, KeepsChannel};
-    ghost use Rattle.ln_channel.specs.Asking.{agreed_end, first_view, with_named, naming_answer};
+    ghost use Rattle.ln_channel.specs.Asking.{agreed_end, first_view, with_named, naming_answer, reaches_channel};
 
     /// Other keys from now on; nothing else changes. Takes no memory.
     pub fn set_keys(&mut self, keys: K)
@@ -52,6 +53,18 @@ impl<K: ChannelKeys + Drop> ChannelMachine<K> {
         ensures same_channel { KeepsChannel self.old.stage self.new.stage }
     {
         self.stage.name_funding(txid, output)
+    }
+
+    /// Whether a message reaches the channel: the link has neither halted nor failed, and what is looked at before the
+    /// channel (an error, another channel's id, a connection that is lost) neither passes it over nor refuses it. Takes
+    /// no memory.
+    pub fn reaches_channel(&self, message: &Message) -> bool
+        ensures { (l : State K) → StandsFor self.now l → result ≡ reaches_channel l message.now }
+    {
+        if self.halted || self.failure.is_some() || self.stage.is_passed_over(message) {
+            return false;
+        }
+        self.stage.message_refusal(self.connection, message).is_none()
     }
 
     /// The end of a channel whose funding is named, whether or not both have signed it. Takes no memory.

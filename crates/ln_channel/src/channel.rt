@@ -137,7 +137,7 @@ impl Channel {
     }
 
     /// Whether closing has begun.
-    pub(crate) fn has_begun(&self) -> bool
+    pub fn has_begun(&self) -> bool
         ensures { (e : End) → StandsFor self.now e → result ≡ has_begun e }
     {
         self.closing.shut && self.closing.peer_shut && self.is_settled()

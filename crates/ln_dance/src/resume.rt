@@ -121,8 +121,8 @@ impl Dance {
         commitment > 0 && message.next_revocation_number == commitment - 1
     }
 
-    // Whether the peer has all signatures and revocations, or all but the last.
-    fn can_be_served(&self, message: &ChannelReestablish) -> bool
+    /// Whether the peer, by its numbers, has all signatures and revocations, or all but the last. Takes no memory.
+    pub fn can_be_served(&self, message: &ChannelReestablish) -> bool
         ensures { (d : Dancer) → StandsFor self.now d → result ≡ can_be_served message.now d }
     {
         let numbers = self.numbers();
