@@ -1,5 +1,5 @@
 -- What a host that answers for a link's keys sees of it.
-use Rattle.std.specs.Prelude.{◌≡◌, Bool, not, ◌&&◌, is_none, Option, Some, None, Result, Ok, Err, List, ℕ, replicate}
+use Rattle.std.specs.Prelude.{Bool, not, ◌&&◌, is_none, Option, Some, None, Result, Ok, Err, List, ℕ, replicate}
 use Rattle.ln_refusals.specs.declared.refusal.Refusal.{Refusal}
 use Rattle.ln_refusals.specs.declared.refusal.Refusal.TheVariants as refusal
 use Rattle.ln_msgs.specs.declared.messages.message.Message.{Message}

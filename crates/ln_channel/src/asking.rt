@@ -64,7 +64,9 @@ impl<K: ChannelKeys + Drop> ChannelMachine<K> {
         if self.halted || self.failure.is_some() || self.stage.is_passed_over(message) {
             return false;
         }
-        self.stage.message_refusal(self.connection, message).is_none()
+        self.stage
+            .message_refusal(self.connection, message)
+            .is_none()
     }
 
     /// The end of a channel whose funding is named, whether or not both have signed it. Takes no memory.

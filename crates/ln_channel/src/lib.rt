@@ -29,4 +29,5 @@ pub use ledger::EventLedger;
 pub use machine::{ChannelMachine, ConnectionState};
 pub use opening::{Terms, opening_is_agreed};
 pub use output::Output;
+pub use stage::named;
 pub use summary::{ChannelStatus, Summary};

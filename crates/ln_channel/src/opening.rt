@@ -5,6 +5,9 @@ ghost use Rattle.ln_bytes.specs.Tlv.{value_of};
 ghost use Rattle.ln_refusals.specs.declared.refusal.Refusal.TheVariants as refusal;
 ghost use Rattle.ln_keys.specs.Signer.{Signer};
 ghost use Rattle.ln_log.specs.Opening.{IsFit};
+ghost use Rattle.ln_log.specs.declared.log.Pair.TheVariants as pair;
+ghost use Rattle.ln_log.specs.declared.log.Side.TheVariants as side;
+ghost use Rattle.ln_dance.specs.Dance.{view_at};
 ghost use Rattle.ln_channel.specs.declared.config.Config.{Config};
 ghost use Rattle.ln_channel.specs.declared.config.OpenSpec.{OpenSpec};
 ghost use Rattle.ln_channel.specs.declared.opening.Opened.{Opened};
@@ -88,8 +91,10 @@ impl Agreed {
         ensures view { IfOk result (λ v. v ≡ first_worth self.now) }
         ensures fails_for_memory_alone { IfErr result (λ r. r ≡ refusal.Memory) }
     {
-        let dance = first_dance(alloc, Role::Fundee, [0; 32], &self.terms);
-        dance.log().view(alloc, Pair::Current(Side::Own))
+        own_view(
+            alloc,
+            &first_dance(alloc, Role::Fundee, [0; 32], &self.terms),
+        )
     }
 
     // Whether a funding_created is of this channel.
@@ -194,6 +199,14 @@ fn sign_first<K: ChannelKeys>(alloc: Global, keys: &K, dance: &Dance) -> Result<
     Ok(signed.sig)
 }
 
+// What its own commitment is worth.
+fn own_view(alloc: Global, dance: &Dance) -> Result<View, Refusal>
+    ensures view { IfOk result (λ v. v ≡ view_at (pair.Current side.Own) dance.now) }
+    ensures fails_for_memory_alone { IfErr result (λ r. r ≡ refusal.Memory) }
+{
+    dance.log().view(alloc, Pair::Current(Side::Own))
+}
+
 // And checks the peer's signature over its own, at its own point.
 pub(crate) fn check_first<K: ChannelKeys>(
     alloc: Global,
@@ -204,7 +217,7 @@ pub(crate) fn check_first<K: ChannelKeys>(
     ensures refuses_exactly { AnswersSignature (first_fault (K.signer keys.now) dance.now signature.now) result }
     ensures refused { IfErr result (λ r. (r ≡ refusal.Memory) ⊎ (fails r ≡ true)) }
 {
-    let view = dance.log().view(alloc, Pair::Current(Side::Own))?;
+    let view = own_view(alloc, dance)?;
     if keys.verify(0, &keys.point(0), &view, signature, &[]) {
         Ok(())
     } else {

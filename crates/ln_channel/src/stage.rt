@@ -30,8 +30,9 @@ use ln_refusals::Refusal;
 use std::alloc::Global;
 use std::mem;
 
-// The channel that a message is about.
-fn named(message: &Message) -> Option<[u8; 32]>
+/// The id of the channel that a message is about; none of one that opens a channel, and of one that is of no channel.
+/// Takes no memory.
+pub fn named(message: &Message) -> Option<[u8; 32]>
     ensures { result ≡ named message.now }
 {
     match message {

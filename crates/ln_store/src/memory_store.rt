@@ -47,7 +47,8 @@ impl MemoryStore {
         Ok(())
     }
 
-    fn find(&self, id: &[u8; 32]) -> Option<&Bytes>
+    /// The record of this id, to be looked at. Takes no memory.
+    pub fn find(&self, id: &[u8; 32]) -> Option<&Bytes>
         ensures { option_copied result ≡ map.get self.now id.now }
     {
         self.records.get(id)
