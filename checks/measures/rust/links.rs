@@ -1,4 +1,4 @@
-//! Two links of one channel, each saving its record behind each call, in plain Rust: what crates/ln_link_calls does for
+//! Two links of one channel, each saving its record after each call, in plain Rust: what crates/ln_link_calls does for
 //! lines of an opening, of HTLCs that are offered, signed, fulfilled and decided, and of `forget`, to compare with
 //! (checks/measure program). It reads and checks each message, keeps a base and a window as a link does, writes the same
 //! records and prints the same lines. Refusals are told by their numbers alone, and of updates it knows adds and

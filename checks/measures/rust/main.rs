@@ -81,7 +81,7 @@ fn value<'a>(rest: &mut &'a [u8]) -> Result<&'a [u8], u16> {
     cut(rest, length).map_err(|_| 5)
 }
 
-/// The bytes of the records behind the fields. `lengths` are types of record whose value has one length.
+/// The bytes of the records after the fields. `lengths` are types of record whose value has one length.
 fn records<'a>(all: &'a [u8], known_even: &[u64], lengths: &[(u64, usize)]) -> Result<&'a [u8], u16> {
     let (mut rest, mut last, mut fits) = (all, None, true);
     while !rest.is_empty() {
