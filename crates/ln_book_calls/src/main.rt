@@ -9,6 +9,7 @@ mod node;
 mod onion;
 mod payments;
 mod show;
+mod times;
 
 use calls::call;
 use node::Node;

@@ -10,7 +10,7 @@ use Rattle.ln_book_tables.specs.KeyIndex.{is_key, is_named, is_place, place_of, 
 pub same_keys : (a b : Key) → is_key a b ≡ true → a ≡ b
 same_keys a b e = search rules
 
-is_there : (j : ℕ) (o : Option ℕ) → is_place j o ≡ true → o ≡ Some j
+pub is_there : (j : ℕ) (o : Option ℕ) → is_place j o ≡ true → o ≡ Some j
 is_there j None e = absurd (let no : false ≡ true = e in cc)
 is_there j (Some m) e = ap (λ n. Some n) (sym (eqb-true j m e))
 

@@ -4,4 +4,5 @@ pub mod Passing
 pub mod Keyed
 pub mod Named
 pub mod InSlots
+pub mod Filled
 pub mod Told

@@ -27,7 +27,7 @@ set_by true ss place i s lt e =
     ap (λ j. get_or (set ss place s) j None) (eqb-true i place e) ∙ get_or-set_same ss place s None lt
 set_by false ss place i s lt e = get_or-set_other ss place i s None (eqb-false i place e)
 
-name_cond : (e : Bool) (s t : Option Htlc) (name : Names → Option Key)
+pub name_cond : (e : Bool) (s t : Option Htlc) (name : Names → Option Key)
     → name (names (cond e s t)) ≡ cond e (name (names s)) (name (names t))
 name_cond true s t name = refl
 name_cond false s t name = refl
@@ -46,7 +46,7 @@ behind_replace ss place s name before after old new lt was is moved indexed =
 
 -- ---- one more
 
-push_by : {A : Type 0} (xs : List A) (y d : A) (i : ℕ)
+pub push_by : {A : Type 0} (xs : List A) (y d : A) (i : ℕ)
     → get_or (xs ++ y ∷ []) i d ≡ cond (nat_eq i (length xs)) y (get_or xs i d)
 push_by [] y d zero = refl
 push_by [] y d (suc i) = sym (ap (λ e. cond e y d) (eqb-suc-zero i))

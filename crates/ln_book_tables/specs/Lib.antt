@@ -7,3 +7,4 @@ pub mod KeyIndex
 pub mod Slots
 pub mod Ids
 pub mod Indices
+pub mod Filled

@@ -14,7 +14,8 @@ use std::alloc::Global;
 use std::marker::Model;
 
 /// HTLCs in slots, of which one that was left out leaves an empty one, and the indices of those slots. Contracts see
-/// the HTLCs.
+/// the HTLCs. At any time at least half of the slots hold something, and unless two HTLCs have one key the index by key
+/// is exact.
 #[derive(Drop)]
 pub(crate) struct IndexedHtlcs {
     slots: Vec<Option<Htlc>>,
@@ -25,13 +26,13 @@ impl Model for IndexedHtlcs {
     ghost use Rattle.std.specs.Prelude.{List};
     ghost use Rattle.ln_book_tables.specs.declared.htlc.Htlc.{Htlc};
     ghost use Rattle.ln_book_tables.specs.Slots.{in_slots};
-    ghost use Rattle.ln_book_tables.specs.Indices.{IsIndexed};
+    ghost use Rattle.ln_book_tables.specs.Filled.{IsKept};
 
     ghost Value = { List Htlc };
 
     ghost view = { λ h. in_slots h.slots.items };
 
-    ghost invariant = { λ h. IsIndexed h.slots.items h.indices };
+    ghost invariant = { λ h. IsKept h.slots.items h.indices };
 }
 
 impl IndexedHtlcs {
@@ -59,7 +60,7 @@ impl IndexedHtlcs {
         ensures these { IfOk result (λ h. h ≡ htlcs.items) }
         ensures fails_for_memory_alone { IfErr result (λ r. r ≡ Refusal.Memory) }
     {
-        let slots = slots_of(alloc, htlcs)?;
+        let mut slots = slots_of(alloc, htlcs)?;
         let mut indices = Indices::new(alloc);
         if !indices.reserve(slots.len()) {
             drop(indices);
@@ -67,6 +68,7 @@ impl IndexedHtlcs {
             return Err(Refusal::Memory);
         }
         index_all(slots.as_slice(), &mut indices);
+        squeeze(&mut slots, &mut indices);
         Ok(IndexedHtlcs { slots, indices })
     }
 
@@ -143,6 +145,7 @@ impl IndexedHtlcs {
     {
         put_back_all(&mut self.slots, channel, told);
         index_all(self.slots.as_slice(), &mut self.indices);
+        squeeze(&mut self.slots, &mut self.indices);
     }
 
     /// The one that was decided, if any, joins the others; the mark is a copy of its mark. Error: 60, which changes
@@ -153,7 +156,6 @@ impl IndexedHtlcs {
         ensures changes_nothing_if_refused { OnErr result (self.new ≡ self.old) }
         ensures fails_for_memory_alone { IfErr result (λ r. r ≡ Refusal.Memory) }
     {
-        squeeze(&mut self.slots, &mut self.indices);
         if !has_room(&mut self.slots, &mut self.indices) {
             return Err(Refusal::Memory);
         }
@@ -167,7 +169,7 @@ ghost use Rattle.std.specs.Vec.{vec_capacity, vec_len};
 ghost use Rattle.ln_book_tables.specs.declared.htlc.Htlc.{Htlc};
 ghost use Rattle.ln_book_tables.specs.Replay.{with_offer};
 ghost use Rattle.ln_book_tables.specs.Slots.{in_slots};
-ghost use Rattle.ln_book_tables.specs.Indices.{IsIndexed};
+ghost use Rattle.ln_book_tables.specs.Filled.{held_in, room_in, IsKept};
 
 // A slot for each. Error: 60 alone.
 fn slots_of(alloc: Global, htlcs: Vec<Htlc>) -> Result<Vec<Option<Htlc>>, Refusal>
@@ -184,9 +186,9 @@ fn slots_of(alloc: Global, htlcs: Vec<Htlc>) -> Result<Vec<Option<Htlc>>, Refusa
 // Makes room for one more, and says whether there is.
 fn has_room(slots: &mut Vec<Option<Htlc>>, indices: &mut Indices) -> bool
     ensures room { IsTrue result → (vec_len slots.new < vec_capacity slots.new)
-        × (vec_len slots.new < vec_capacity indices.new.due) }
+        × (vec_len slots.new < vec_capacity indices.new.due) × (vec_len slots.new < room_in indices.new.by_key) }
     ensures same { slots.new.items ≡ slots.old.items }
-    ensures indexed { (ss : List (Option Htlc)) → IsIndexed ss indices.old → IsIndexed ss indices.new }
+    ensures kept { (ss : List (Option Htlc)) → IsKept ss indices.old → IsKept ss indices.new }
 {
     slots.reserve(1).is_ok() && indices.reserve(slots.capacity())
 }
@@ -200,9 +202,10 @@ fn join_reserved(
 )
     requires same { mark ≡ decided.now.mark }
     requires room { (vec_len slots.old < vec_capacity slots.old) × (vec_len slots.old < vec_capacity indices.old.due) }
-    requires indexed { IsIndexed slots.old.items indices.old }
+    requires key_room { vec_len slots.old < room_in indices.old.by_key }
+    requires kept { IsKept slots.old.items indices.old }
     ensures joined { in_slots slots.new.items ≡ with_offer decided.now decided.now.offer (in_slots slots.old.items) }
-    ensures indexed { IsIndexed slots.new.items indices.new }
+    ensures kept { IsKept slots.new.items indices.new }
 {
     let Some(offer) = decided.offer else {
         return;
@@ -229,9 +232,10 @@ fn join_reserved(
 // One more in a slot behind the others.
 fn push(slots: &mut Vec<Option<Htlc>>, indices: &mut Indices, htlc: Htlc)
     requires room { (vec_len slots.old < vec_capacity slots.old) × (vec_len slots.old < vec_capacity indices.old.due) }
-    requires indexed { IsIndexed slots.old.items indices.old }
+    requires key_room { held_in slots.old.items < room_in indices.old.by_key }
+    requires kept { IsKept slots.old.items indices.old }
     ensures pushed { slots.new.items ≡ slots.old.items ++ Some htlc ∷ [] }
-    ensures indexed { IsIndexed slots.new.items indices.new }
+    ensures kept { IsKept slots.new.items indices.new }
 {
     let place = slots.len();
     let slot = Some(htlc);

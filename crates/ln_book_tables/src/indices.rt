@@ -20,15 +20,21 @@ pub(crate) struct Indices {
 }
 
 impl Indices {
-    ghost use Rattle.std.specs.Prelude.{◌≡◌, ℕ, ◌<◌, ◌≤◌, List, [], ◌∷◌, ◌++◌, length, get_or, set, Option, None};
+    ghost use Rattle.std.specs.Prelude.{◌≡◌, ℕ, ◌+◌, ◌<◌, ◌≤◌, List, [], ◌∷◌, ◌++◌, length, get_or, set, Option, None};
     ghost use Rattle.std.specs.Prelude.{IsTrue, not, ◌&&◌, nat_eq};
     ghost use Rattle.std.specs.Vec.{vec_capacity, vec_len};
     ghost use Rattle.ln_book_tables.specs.declared.htlc.Htlc.{Htlc};
     ghost use Rattle.ln_book_tables.specs.Indices.{IsIndexed, names, at_event, told_by};
+    ghost use Rattle.ln_book_tables.specs.declared.htlc.Key.{Key};
+    ghost use Rattle.ln_book_tables.specs.KeyIndex.{IsIndexOf};
+    ghost use Rattle.ln_book_tables.specs.Slots.{in_slots};
+    ghost use Rattle.ln_book_tables.specs.Filled.{one_or_none, count_in, room_in, held_in, IsCounted, IsExact};
 
     /// Of no slots. Takes no memory.
     pub(crate) fn new(alloc: Global) -> Indices
-        ensures { IsIndexed [] result }
+        ensures indexed { IsIndexed [] result }
+        ensures counted { IsCounted [] result.by_key }
+        ensures exact { IsExact [] result.by_key }
     {
         Indices {
             due: Vec::new(alloc),
@@ -43,7 +49,10 @@ impl Indices {
     /// Of no slots, from now on. Takes no memory.
     pub(crate) fn clear(&mut self)
         ensures indexed { IsIndexed [] self.new }
+        ensures counted { IsCounted [] self.new.by_key }
+        ensures exact { IsExact [] self.new.by_key }
         ensures room { vec_capacity self.new.due ≡ vec_capacity self.old.due }
+        ensures key_room { room_in self.old.by_key ≤ room_in self.new.by_key }
     {
         self.due.clear();
         self.by_key.clear();
@@ -57,6 +66,10 @@ impl Indices {
     pub(crate) fn reserve(&mut self, count: usize) -> bool
         ensures same { (ss : List (Option Htlc)) → IsIndexed ss self.old → IsIndexed ss self.new }
         ensures room { IsTrue result → count ≤ vec_capacity self.new.due }
+        ensures enough { IsTrue result → count ≤ room_in self.new.by_key }
+        ensures same_keys { (self.new.by_key.places.entries ≡ self.old.by_key.places.entries)
+            × (self.new.by_key.exact ≡ self.old.by_key.exact) }
+        ensures key_room { room_in self.old.by_key ≤ room_in self.new.by_key }
     {
         let missing = count.saturating_sub(self.due.len());
         self.due.reserve(missing).is_ok() && self.reserve_keys(count)
@@ -66,6 +79,10 @@ impl Indices {
     fn reserve_keys(&mut self, count: usize) -> bool
         ensures same { (ss : List (Option Htlc)) → IsIndexed ss self.old → IsIndexed ss self.new }
         ensures room { vec_capacity self.new.due ≡ vec_capacity self.old.due }
+        ensures enough { IsTrue result → count ≤ room_in self.new.by_key }
+        ensures same_keys { (self.new.by_key.places.entries ≡ self.old.by_key.places.entries)
+            × (self.new.by_key.exact ≡ self.old.by_key.exact) }
+        ensures key_room { room_in self.old.by_key ≤ room_in self.new.by_key }
     {
         self.by_key.reserve(count)
             && self.by_event.reserve(count)
@@ -80,7 +97,13 @@ impl Indices {
         requires fewer { vec_len self.old.due ≤ place }
         ensures indexed { (ss : List (Option Htlc)) → length ss ≡ place → IsIndexed ss self.old
             → IsIndexed (ss ++ slot.now ∷ []) self.new }
+        ensures counted { (ss : List (Option Htlc)) → IsCounted ss self.old.by_key
+            → held_in (ss ++ slot.now ∷ []) ≤ room_in self.old.by_key → IsCounted (ss ++ slot.now ∷ []) self.new.by_key }
+        ensures exact { (ss : List (Option Htlc)) → length ss ≡ place → IsIndexed ss self.old
+            → IsCounted ss self.old.by_key → held_in (ss ++ slot.now ∷ []) ≤ room_in self.old.by_key
+            → IsExact ss self.old.by_key → IsExact (ss ++ slot.now ∷ []) self.new.by_key }
         ensures room { vec_capacity self.new.due ≡ vec_capacity self.old.due }
+        ensures key_room { room_in self.old.by_key ≤ room_in self.new.by_key }
     {
         let names = names_in(slot);
         push_place(&mut self.due, place, names.due);
@@ -97,6 +120,13 @@ impl Indices {
         ensures indexed { (ss : List (Option Htlc)) (s : Option Htlc) → place < length ss
             → before.now ≡ names (get_or ss place None) → after.now ≡ names s → IsIndexed ss self.old
             → IsIndexed (set ss place s) self.new }
+        ensures same_keys { before.now.key ≡ after.now.key → self.new.by_key ≡ self.old.by_key }
+        ensures fewer { (at : ℕ → Option Key) → at place ≡ before.now.key → IsIndexOf at self.old.by_key
+            → after.now.key ≡ None → IsTrue self.old.by_key.exact
+            → count_in self.new.by_key + one_or_none before.now.key ≡ count_in self.old.by_key }
+        ensures as_exact { after.now.key ≡ None → self.new.by_key.exact ≡ self.old.by_key.exact }
+        ensures key_room { after.now.key ≡ None
+            → room_in self.old.by_key ≤ room_in self.new.by_key + one_or_none before.now.key }
         ensures room { vec_capacity self.new.due ≡ vec_capacity self.old.due }
     {
         put_place(&mut self.due, place, before.due, after.due);

@@ -263,26 +263,27 @@ fn failing_writes(rt: HostRuntime) {
     assert!(rt; result_of(rt.alloc(), NEVER, 27) == (Ok(3), Some(24), 0));
 }
 
-/// The two ends of a connection whose other side sends its next ping only once it has the pong for the last: each read
-/// sees how many bytes were flushed before it.
+/// A connection whose other side sends pings in pieces, which may end inside a frame, and fails where the next piece is
+/// read before the pong of each ping that came whole was written and flushed.
 #[derive(Drop)]
-struct Peer<'a> {
+struct Strict<'a> {
     flushed: &'a Cell<usize>,
-    asked: usize,
-    missed: bool,
+    rest: &'a [u8],
+    given: usize,
+    piece: usize,
 }
 
-impl Read for Peer<'_> {
+impl Read for Strict<'_> {
     fn read(&mut self, buffer: &mut [u8]) -> io::Result<usize> {
-        if self.flushed.get() != self.asked.saturating_mul(8) {
-            self.missed = true;
+        if self.flushed.get() != self.given / 8 * 8 {
+            return Err(io::Error::from(ErrorKind::BrokenPipe));
         }
-        if self.asked == 3 || buffer.len() < 8 {
-            return Ok(0);
-        }
-        self.asked = self.asked.saturating_add(1);
-        buffer[..8].copy_from_slice(&PING);
-        Ok(8)
+        let count = self.rest.len().min(buffer.len()).min(self.piece);
+        let (piece, rest) = self.rest.split_at(count);
+        buffer[..count].copy_from_slice(piece);
+        self.rest = rest;
+        self.given = self.given.saturating_add(count);
+        Ok(count)
     }
 }
 
@@ -304,21 +305,28 @@ impl Write for Sent<'_> {
     }
 }
 
-#[test]
-fn pongs_before_the_next_read(rt: HostRuntime) {
+/// Whether pings that come in pieces of so many bytes are answered, with no read while a pong is owed.
+fn is_answered_in_turn(alloc: Global, piece: usize) -> bool {
     let flushed = Cell::new(0);
-    let mut reader = Counted::new(Peer {
+    let mut reader = Counted::new(Strict {
         flushed: &flushed,
-        asked: 0,
-        missed: false,
+        rest: &PINGS,
+        given: 0,
+        piece,
     });
     let mut writer = Counted::new(Sent {
         flushed: &flushed,
         written: 0,
     });
-    assert!(rt; answer_pings(rt.alloc(), &mut reader, &mut writer) == Ok(3));
-    assert!(rt; !reader.get_ref().missed);
-    assert!(rt; writer.get_ref().written == 24);
+    answer_pings(alloc, &mut reader, &mut writer) == Ok(3) && writer.get_ref().written == 24
+}
+
+// A piece of 8 is one frame; one of 11 has the beginning of the next; one of 16 has two; one of 24 all.
+#[test]
+fn no_read_while_a_pong_is_owed(rt: HostRuntime) {
+    for piece in 1..25 {
+        assert!(rt; is_answered_in_turn(rt.alloc(), piece), "{piece}");
+    }
 }
 
 #[test]

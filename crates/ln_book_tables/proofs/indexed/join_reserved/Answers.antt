@@ -1,11 +1,22 @@
-use Rattle.std.proofs.Common.{◌≡◌, ◌∙◌, ap, sym, true, false, cond, ◌++◌, ◌∷◌, []}
+use Rattle.std.proofs.Common.{◌≡◌, ◌∙◌, ap, sym, arith, true, false, cond, ◌++◌, ◌∷◌, []}
 use Rattle.std.specs.List.{position, list_any}
 use Rattle.ln_book_tables.specs.declared.htlc.Key.{Key}
 use Rattle.ln_book_tables.specs.declared.htlc.Htlc.{Htlc}
 use Rattle.ln_book_tables.specs.Replay.{is_decided, is_htlc, left_out, htlc_of, with_offer}
 use Rattle.ln_book_tables.specs.Slots.{in_slots, passes}
 use Rattle.ln_book_tables.proofs.InSlots.{any_there, in_pushed}
+use Rattle.ln_book_tables.proofs.Filled.{held_at_most}
 use Rattle.ln_book_tables.proofs.indexed.join_reserved.Goals as goal
+
+pub push-requires-clause-key_room : goal.push-requires-clause-key_room
+push-requires-clause-key_room c =
+    omega (
+      arith,
+      c.leave_out.ensures.key_room,
+      c.requires.key_room,
+      held_at_most c.args.slots.now.items,
+      c.args.slots.now.ok.0,
+    )
 
 pub returns-then-is_some-clause-joined : goal.returns-then-is_some-clause-joined
 returns-then-is_some-clause-joined c =

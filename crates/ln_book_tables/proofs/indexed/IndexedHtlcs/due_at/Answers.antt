@@ -10,7 +10,7 @@ use Rattle.ln_book_tables.proofs.indexed.IndexedHtlcs.due_at.Goals as goal
 pub index-requires : goal.index-requires
 index-requires c =
     let same : vec_len c.self.inside.indices.due ≡ length (due_htlcs c.args.self.now) =
-    c.self.inside.indices.due.ok.0 ∙ ap length c.self.invariant.due
+    c.self.inside.indices.due.ok.0 ∙ ap length c.self.invariant.indexed.due
     ∙ as_many_in is_due c.self.inside.slots.items ∙ ap (λ hs. length (due_htlcs hs)) c.self.view_is in
     omega (arith, c.requires, same)
 
@@ -20,7 +20,7 @@ index-requires-2 c =
     let same : length (places_of (passes is_due) ss) ≡ length (due_htlcs c.args.self.now) =
     as_many_in is_due ss ∙ ap (λ hs. length (due_htlcs hs)) c.self.view_is in
     let place : c.index.result.now ≡ get_or (places_of (passes is_due) ss) c.args.index c.index.result.now =
-    c.index.ensures ∙ ap (λ ps. get_or ps c.args.index c.index.result.now) c.self.invariant.due in
+    c.index.ensures ∙ ap (λ ps. get_or ps c.args.index c.index.result.now) c.self.invariant.indexed.due in
     omega (
       arith,
       place,
@@ -32,7 +32,7 @@ pub unreachable-requires : goal.unreachable-requires
 unreachable-requires c =
     let ss = c.self.inside.slots.items in
     let place : c.index.result.now ≡ get_or (places_of (passes is_due) ss) c.args.index c.index.result.now =
-    c.index.ensures ∙ ap (λ ps. get_or ps c.args.index c.index.result.now) c.self.invariant.due in
+    c.index.ensures ∙ ap (λ ps. get_or ps c.args.index c.index.result.now) c.self.invariant.indexed.due in
     let within_due : c.args.index < length (due_htlcs (in_slots ss)) =
     omega (arith, c.requires, ap (λ hs. length (due_htlcs hs)) c.self.view_is) in
     not_empty is_due ss c.args.index c.index.result.now c.index-2.result.now within_due
@@ -43,7 +43,7 @@ returns c =
     let ss = c.self.inside.slots.items in
     let htlc = c.in-Some.htlc in
     let place : c.index.result.now ≡ get_or (places_of (passes is_due) ss) c.args.index c.index.result.now =
-    c.index.ensures ∙ ap (λ ps. get_or ps c.args.index c.index.result.now) c.self.invariant.due in
+    c.index.ensures ∙ ap (λ ps. get_or ps c.args.index c.index.result.now) c.self.invariant.indexed.due in
     let within_due : c.args.index < length (due_htlcs (in_slots ss)) =
     omega (arith, c.requires, ap (λ hs. length (due_htlcs hs)) c.self.view_is) in
     let same : Some htlc ≡ Some (get_or (due_htlcs (in_slots ss)) c.args.index htlc) =

@@ -19,13 +19,13 @@ returns-clause-indexed c ss s lt was is indexed = record {
       ∙ behind_change (passes is_due) ss c.args.place None s lt;
   room = omega (arith, length-set ss c.args.place s, indexed.room, c.put_place.ensures.room);
   by_key = behind_replace ss c.args.place s (λ n. n.key) c.args.before.now c.args.after.now
-      c.args.self.now.by_key c.replace.new.self lt was is c.replace.ensures indexed.by_key;
+      c.args.self.now.by_key c.replace.new.self lt was is c.replace.ensures.indexed indexed.by_key;
   by_event = behind_replace ss c.args.place s (λ n. n.event) c.args.before.now c.args.after.now
-      c.args.self.now.by_event c.replace-2.new.self lt was is c.replace-2.ensures indexed.by_event;
+      c.args.self.now.by_event c.replace-2.new.self lt was is c.replace-2.ensures.indexed indexed.by_event;
   by_held = behind_replace ss c.args.place s (λ n. n.held) c.args.before.now c.args.after.now
-      c.args.self.now.by_held c.replace-3.new.self lt was is c.replace-3.ensures indexed.by_held;
+      c.args.self.now.by_held c.replace-3.new.self lt was is c.replace-3.ensures.indexed indexed.by_held;
   by_outgoing = behind_replace ss c.args.place s (λ n. n.outgoing) c.args.before.now c.args.after.now
-      c.args.self.now.by_outgoing c.replace-4.new.self lt was is c.replace-4.ensures indexed.by_outgoing;
+      c.args.self.now.by_outgoing c.replace-4.new.self lt was is c.replace-4.ensures.indexed indexed.by_outgoing;
   by_over = behind_replace ss c.args.place s (λ n. n.over) c.args.before.now c.args.after.now
-      c.args.self.now.by_over c.replace-5.new.self lt was is c.replace-5.ensures indexed.by_over;
+      c.args.self.now.by_over c.replace-5.new.self lt was is c.replace-5.ensures.indexed indexed.by_over;
 }

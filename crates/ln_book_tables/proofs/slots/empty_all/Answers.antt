@@ -3,7 +3,7 @@ use Rattle.ln_book_tables.specs.Lists.{picks}
 use Rattle.ln_book_tables.specs.Slots.{in_slots, passes}
 use Rattle.ln_book_tables.proofs.InSlots.{nowhere, none_left, none_passes, in_left, in_cleared}
 use Rattle.ln_book_tables.proofs.Told.{IsToldOf, told_right}
-use Rattle.ln_book_tables.proofs.slots.leave_out.Goals as goal
+use Rattle.ln_book_tables.proofs.slots.empty_all.Goals as goal
 
 pub returns-in-Unknown-clause-left : goal.returns-in-Unknown-clause-left
 returns-in-Unknown-clause-left c =
