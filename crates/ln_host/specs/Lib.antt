@@ -1,0 +1,9 @@
+pub mod Keys
+pub mod Question
+pub mod Blank
+pub mod Line
+pub mod Answer
+pub mod Seen
+pub mod Greeting
+pub mod Hosted
+pub mod Calls
