@@ -1,0 +1,242 @@
+"""A channel of a wallet: its link, its signer, its store, and the loop over them."""
+
+from __future__ import annotations
+
+from threading import RLock
+from typing import Callable, Protocol
+
+from .commands import Command, Decide
+from .config import Config, OpenSpec
+from .items import (
+    Blank,
+    BlankItem,
+    CloseBlank,
+    Event,
+    EventItem,
+    Item,
+    PointBlank,
+    Record,
+    RevocationBlank,
+    Send,
+    SignaturesBlank,
+)
+from .link import Link
+from .marks import Mark, NoMark
+from .messages import channel_of, error, secret_in, warning
+from .questions import (
+    CloseQuestion,
+    FirstQuestion,
+    NewQuestion,
+    OwnSecretQuestion,
+    Question,
+    SecretQuestion,
+    SignaturesQuestion,
+)
+from .refusals import Refused
+from .store import Store
+from .views import Closing, Commitment, Summary, View
+
+FEE_OUTSIDE = 36
+
+
+class Signer(Protocol):
+    """The keys of one end of one channel (BOLT 3). Commitments have numbers from 0.
+
+    `messages.signatures_in` and `messages.closing_signature_in` find what is to be verified.
+    """
+
+    def point(self, number: int) -> bytes:
+        """The own per-commitment point of this number: 33 bytes."""
+
+    def secret(self, number: int) -> bytes:
+        """The own per-commitment secret of this number: 32 bytes. It is asked for once the commitment is revoked in a
+        record that was saved, or once the peer tells of it."""
+
+    def sign(self, blank: SignaturesBlank) -> bytes:
+        """Signs the peer's commitment and its untrimmed HTLCs, in the order of their outputs: 64 bytes each."""
+
+    def verify(self, question: SignaturesQuestion | FirstQuestion, message: bytes) -> bool:
+        """Whether the message's signatures are the peer's over the own commitment and its HTLCs."""
+
+    def fits(self, number: int, point: bytes, secret: bytes) -> bool:
+        """Whether this is the secret of the peer's commitment of this number, which has this point."""
+
+    def sign_close(self, closing: Closing) -> bytes:
+        """Signs a closing transaction: 64 bytes."""
+
+    def verify_close(self, closing: Closing, message: bytes) -> bool:
+        """Whether the message's signature is the peer's over a closing transaction."""
+
+
+OnEvent = Callable[[int, Event], "Mark | None"]
+
+
+def _ignore(number: int, event: Event) -> None:
+    return None
+
+
+class Channel:
+    """One end of a channel, which saves before it sends.
+
+    Each call answers the messages to send, in order. `on_event` is told of each event, with its number: it answers what
+    the record is to keep of what is done (a mark), or None. Then the event is decided, and isn't told again. An event
+    is told again where that call raises, and after a restart where it wasn't decided yet. `on_event` gives no commands
+    itself: the wallet does so once the call has answered.
+
+    Where the store or the signer raises, nothing that depends on it is answered; `flush` tries again. Threads may share
+    a channel.
+    """
+
+    def __init__(self, link: Link, signer: Signer, store: Store, on_event: OnEvent = _ignore):
+        self.link = link
+        self._signer = signer
+        self._store = store
+        self._on_event = on_event
+        self._lock = RLock()
+        self._in_turn = False
+        self._outbox: list[bytes] = []
+
+    @classmethod
+    def open(cls, spec: OpenSpec, signer: Signer, store: Store, on_event: OnEvent = _ignore) -> Channel:
+        """A funder's channel. `connect` sends open_channel."""
+        return cls(Link.open(spec, signer.point(0)), signer, store, on_event)
+
+    @classmethod
+    def accept(cls, config: Config, signer: Signer, store: Store, on_event: OnEvent = _ignore) -> Channel:
+        """A fundee's channel, which awaits open_channel once it is connected."""
+        return cls(Link.accept(config, signer.point(0)), signer, store, on_event)
+
+    @classmethod
+    def load(cls, channel: bytes, signer: Signer, store: Store, on_event: OnEvent = _ignore) -> Channel:
+        """A channel that was saved. KeyError: the store has none of this id. The next call, as `connect`, tells of
+        events that weren't decided."""
+        saved = store.load(channel)
+        if saved is None:
+            raise KeyError(channel.hex())
+        return cls(Link.load(saved), signer, store, on_event)
+
+    def fund(self, txid: bytes, output: int) -> None:
+        """Names the funding, before accept_channel is received."""
+        self.link.fund(txid, output)
+
+    def connect(self) -> list[bytes]:
+        """There is a connection, and `init` has passed."""
+        return self._turn(self.link.connect)
+
+    def disconnect(self) -> None:
+        """The connection is lost. What wasn't sent is sent again, where BOLT 2 wants that, after the next `connect`."""
+        with self._lock:
+            self.link.disconnect()
+            self._outbox.clear()
+
+    def receive(self, message: bytes) -> list[bytes]:
+        """Takes a message of the peer's. Refused where it is refused: its `reply`, if there is one, is to be sent, and
+        by any number but 20 and 36 the connection is then closed."""
+        try:
+            return self._turn(lambda: self.link.message(message, self._answer(message)))
+        except Refused as refused:
+            refused.reply = self._reply(refused.number, message)
+            raise
+
+    def command(self, command: Command) -> list[bytes]:
+        """Does what it is told. Refused where it is refused, and nothing has changed."""
+        return self._turn(lambda: self.link.command(command))
+
+    def flush(self) -> list[bytes]:
+        """Hands out what waits, after a store or a signer raised."""
+        return self._turn(lambda: None)
+
+    def summary(self) -> Summary:
+        """Where the channel is."""
+        return self.link.look()
+
+    def view(self, which: Commitment = Commitment.OWN) -> View:
+        """What a commitment is worth."""
+        return self.link.view(which)
+
+    def close(self) -> None:
+        """Frees the link. The channel is as it was saved: `load` takes it up again."""
+        with self._lock:
+            self.link.close()
+
+    def __enter__(self) -> Channel:
+        return self
+
+    def __exit__(self, *_: object) -> None:
+        self.close()
+
+    def _turn(self, act: Callable[[], None]) -> list[bytes]:
+        with self._lock:
+            if self._in_turn:
+                raise RuntimeError("commands are given once the call that tells of an event has answered")
+            self._in_turn = True
+            try:
+                try:
+                    act()
+                finally:
+                    self._hand_out()
+            finally:
+                self._in_turn = False
+            sent, self._outbox = self._outbox, []
+            return sent
+
+    def _hand_out(self) -> None:
+        while (item := self.link.next()) is not None:
+            self._take(item)
+
+    def _take(self, item: Item) -> None:
+        if isinstance(item, Record):
+            self._store.save(item)
+            self.link.done()
+        elif isinstance(item, BlankItem):
+            self.link.done(self._fill(item.blank))
+        elif isinstance(item, Send):
+            self._outbox.append(item.message)
+            self.link.done()
+        elif isinstance(item, EventItem):
+            mark = self._on_event(item.number, item.event)
+            self.link.done()
+            self.link.command(Decide(item.number, mark or NoMark()))
+        else:
+            self.link.done()
+
+    def _fill(self, blank: Blank) -> bytes:
+        if isinstance(blank, SignaturesBlank):
+            return self._signer.sign(blank)
+        if isinstance(blank, RevocationBlank):
+            return self._signer.secret(blank.secret_number) + self._signer.point(blank.point_number)
+        if isinstance(blank, PointBlank):
+            return self._signer.point(blank.number)
+        assert isinstance(blank, CloseBlank)
+        return self._signer.sign_close(blank.closing)
+
+    def _answer(self, message: bytes) -> bytes:
+        question = self.link.question(message)
+        return b"" if question is None else self._judge(question, message)
+
+    def _judge(self, question: Question, message: bytes) -> bytes:
+        if isinstance(question, SignaturesQuestion):
+            return _byte(self._signer.verify(question, message))
+        if isinstance(question, SecretQuestion):
+            return _byte(self._signer.fits(question.number, question.point, secret_in(message)))
+        if isinstance(question, CloseQuestion):
+            return _byte(self._signer.verify_close(question.closing, message))
+        if isinstance(question, OwnSecretQuestion):
+            return self._signer.secret(question.number)
+        if isinstance(question, NewQuestion):
+            return _byte(self._store.load(question.channel) is None)
+        assert isinstance(question, FirstQuestion)
+        if self._store.load(question.channel) is not None:
+            return b"\2"
+        return _byte(self._signer.verify(question, message))
+
+    def _reply(self, number: int, message: bytes) -> bytes | None:
+        if not 20 <= number <= FEE_OUTSIDE:
+            return None
+        channel = channel_of(message) or bytes(32)
+        told = warning if number == FEE_OUTSIDE else error
+        return told(channel, f"refused {number}")
+
+
+def _byte(yes: bool) -> bytes:
+    return b"\1" if yes else b"\0"
