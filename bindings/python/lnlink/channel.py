@@ -5,7 +5,7 @@ from __future__ import annotations
 from threading import RLock
 from typing import Callable, Protocol
 
-from .commands import Command, Decide
+from .commands import Command, Decide, Sign
 from .config import Config, OpenSpec
 from .items import (
     Blank,
@@ -37,6 +37,7 @@ from .store import Store
 from .views import Closing, Commitment, Summary, View
 
 FEE_OUTSIDE = 36
+NOT_NOW = (40, 41, 42, 47)  # not ready, a signature is unrevoked, nothing is new, not connected
 
 
 class Signer(Protocol):
@@ -141,6 +142,16 @@ class Channel:
     def command(self, command: Command) -> list[bytes]:
         """Does what it is told. Refused where it is refused, and nothing has changed."""
         return self._turn(lambda: self.link.command(command))
+
+    def sign_when_due(self) -> list[bytes]:
+        """Signs the peer's next commitment, if there is anything new to sign and the last signature is revoked. No
+        messages where it can't sign now."""
+        try:
+            return self.command(Sign())
+        except Refused as refused:
+            if refused.number in NOT_NOW:
+                return []
+            raise
 
     def flush(self) -> list[bytes]:
         """Hands out what waits, after a store or a signer raised."""

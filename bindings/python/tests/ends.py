@@ -27,7 +27,6 @@ from lnlink import (
     Refused,
     Role,
     Settled,
-    Sign,
     SqliteStore,
     Status,
     channel_id,
@@ -257,7 +256,9 @@ class Wire:
         worked = False
         for command in list(end.due(self.peer(end).name)):
             worked |= self.command(end, command)
-        return self.command(end, Sign()) or worked
+        signed = end.link.sign_when_due()
+        self.post(end, signed)
+        return bool(signed) or worked
 
     def command(self, end: End, command: Command) -> bool:
         """Gives a command. False where it can't be taken yet."""

@@ -37,7 +37,6 @@ from lnlink import (
     Malformed,
     MalformedMark,
     NewQuestion,
-    NoMark,
     OpenSpec,
     OwnSecretQuestion,
     PointBlank,

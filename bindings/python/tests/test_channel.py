@@ -125,7 +125,7 @@ class ChannelTest(unittest.TestCase):
 
         wire.b.tell = commands
         wire.run()
-        self.assertEqual(len(caught), 1)
+        self.assertEqual(len(caught), len(wire.b.events))
 
     def test_event_tells_of_the_htlc(self) -> None:
         wire = self.wire.opened()

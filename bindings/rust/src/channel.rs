@@ -205,6 +205,21 @@ impl<S: Signer, T: Store> Channel<S, T> {
         self.turn(answer)
     }
 
+    /// Signs the peer's next commitment, if there is anything new to sign and the last signature is revoked. No
+    /// messages where it can't sign now.
+    ///
+    /// # Errors
+    ///
+    /// As of a command, but for `NotReady`, `SignatureOutstanding`, `NothingToSign` and `Disconnected`.
+    pub fn sign_when_due(&mut self) -> Result<Messages, Error> {
+        match self.command(&Command::Sign) {
+            Err(Error::Refused(
+                Refused::NotReady | Refused::SignatureOutstanding | Refused::NothingToSign | Refused::Disconnected,
+            )) => Ok(Vec::new()),
+            answer => answer,
+        }
+    }
+
     /// Hands out what waits, after the host failed.
     ///
     /// # Errors

@@ -322,7 +322,14 @@ impl Wire {
                 for command in self.ends[at].due(peer) {
                     worked |= self.command(at, &command)?;
                 }
-                worked |= self.command(at, &Command::Sign)?;
+                match self.ends[at].channel().sign_when_due() {
+                    Ok(messages) => {
+                        worked |= !messages.is_empty();
+                        self.post(at, messages);
+                    }
+                    Err(Error::Host(_)) => return Err(Break::DiskFailed(at)),
+                    Err(refused) => panic!("{refused}"),
+                }
             }
             if !worked {
                 return Ok(());
