@@ -98,7 +98,8 @@ int32_t lnl_disconnect(lnl_link *link);
 int32_t lnl_question(lnl_link *link, const uint8_t *message, size_t len, uint8_t *out, size_t room, size_t *n);
 
 /* Takes a message with the answer to its question (n = 0 where there was none). By 21 to 35 and 37 the channel has
- * failed: a record of that stands in the line. By 20 and 36 nothing has changed. */
+ * failed: a record of that stands in the line. By 20 and 36 nothing has changed. By 20 to 35 an `error` for the peer
+ * waits in the line, by 36 a `warning`. */
 int32_t lnl_message(lnl_link *link, const uint8_t *message, size_t len, const uint8_t *answer, size_t n);
 
 /* Does what it is told: a tag u8, and
@@ -157,7 +158,7 @@ int32_t lnl_init(const uint8_t *features, size_t len, const uint8_t *chains, siz
 /* Whether all even features of the peer's init are among the m known bits: 0, 9, a fault, or 21 for another message. */
 int32_t lnl_check_init(const uint8_t *message, size_t len, const uint16_t *known, size_t m);
 
-/* The pong to a ping. *n = 0: none is wanted. */
+/* The pong to a ping. *n = 0: none is wanted. 21: the message is no ping. */
 int32_t lnl_pong(const uint8_t *message, size_t len, uint8_t *out, size_t room, size_t *n);
 
 /* The channel id that a message names, 32 bytes (the temporary one in the first three of an opening). *n = 0: none. */

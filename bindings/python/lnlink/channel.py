@@ -22,7 +22,7 @@ from .items import (
 )
 from .link import Link
 from .marks import Mark, NoMark
-from .messages import channel_of, error, secret_in, warning
+from .messages import secret_in
 from .questions import (
     CloseQuestion,
     FirstQuestion,
@@ -36,7 +36,7 @@ from .refusals import Refused
 from .store import Store
 from .views import Closing, Commitment, Summary, View
 
-FEE_OUTSIDE = 36
+DAMAGED = 70
 NOT_NOW = (40, 41, 42, 47)  # not ready, a signature is unrevoked, nothing is new, not connected
 
 
@@ -109,12 +109,16 @@ class Channel:
 
     @classmethod
     def load(cls, channel: bytes, signer: Signer, store: Store, on_event: OnEvent = _ignore) -> Channel:
-        """A channel that was saved. KeyError: the store has none of this id. The next call, as `connect`, tells of
-        events that weren't decided."""
+        """A channel that was saved. KeyError: the store has none of this id. Refused by 70 where it gives another
+        channel's. The next call, as `connect`, tells of events that weren't decided."""
         saved = store.load(channel)
         if saved is None:
             raise KeyError(channel.hex())
-        return cls(Link.load(saved), signer, store, on_event)
+        link = Link.load(saved)
+        if link.look().channel != channel:
+            link.close()
+            raise Refused(DAMAGED)
+        return cls(link, signer, store, on_event)
 
     def fund(self, txid: bytes, output: int) -> None:
         """Names the funding, before accept_channel is received."""
@@ -131,13 +135,9 @@ class Channel:
             self._outbox.clear()
 
     def receive(self, message: bytes) -> list[bytes]:
-        """Takes a message of the peer's. Refused where it is refused: its `reply`, if there is one, is to be sent, and
-        by any number but 20 and 36 the connection is then closed."""
-        try:
-            return self._turn(lambda: self.link.message(message, self._answer(message)))
-        except Refused as refused:
-            refused.reply = self._reply(refused.number, message)
-            raise
+        """Takes a message of the peer's. Refused where it is refused: its `messages` are to be sent, and by any number
+        but 20 and 36 the connection is then closed."""
+        return self._turn(lambda: self.link.message(message, self._answer(message)))
 
     def command(self, command: Command) -> list[bytes]:
         """Does what it is told. Refused where it is refused, and nothing has changed."""
@@ -182,14 +182,23 @@ class Channel:
                 raise RuntimeError("commands are given once the call that tells of an event has answered")
             self._in_turn = True
             try:
-                try:
-                    act()
-                finally:
-                    self._hand_out()
+                refused = self._refusal(act)
+                self._hand_out()
             finally:
                 self._in_turn = False
             sent, self._outbox = self._outbox, []
+            if refused is not None:
+                refused.messages = sent
+                raise refused
             return sent
+
+    @staticmethod
+    def _refusal(act: Callable[[], None]) -> Refused | None:
+        try:
+            act()
+        except Refused as refused:
+            return refused
+        return None
 
     def _hand_out(self) -> None:
         while (item := self.link.next()) is not None:
@@ -240,13 +249,6 @@ class Channel:
         if self._store.load(question.channel) is not None:
             return b"\2"
         return _byte(self._signer.verify(question, message))
-
-    def _reply(self, number: int, message: bytes) -> bytes | None:
-        if not 20 <= number <= FEE_OUTSIDE:
-            return None
-        channel = channel_of(message) or bytes(32)
-        told = warning if number == FEE_OUTSIDE else error
-        return told(channel, f"refused {number}")
 
 
 def _byte(yes: bool) -> bytes:

@@ -34,7 +34,7 @@ def check_init(message: bytes, known: Iterable[int]) -> None:
 
 
 def pong(message: bytes) -> bytes | None:
-    """The answer to a `ping`; None where none is wanted."""
+    """The answer to a `ping`; None where none is wanted. 21: it is no `ping`."""
     return fetch(library.lnl_pong, message, len(message)) or None
 
 

@@ -58,17 +58,17 @@ NAMES = {
 class Refused(Exception):
     """A call was refused.
 
-    number  the refusal's number
-    name    its name
-    rule    where the number is 44: the rule by which the peer would refuse, by its number; else None
-    reply   from `Channel.receive`: the message that tells the peer, if there is one
+    number    the refusal's number
+    name      its name
+    rule      where the number is 44: the rule by which the peer would refuse, by its number; else None
+    messages  from `Channel`: what is to be sent to the peer even so, as an `error` or a `warning`
     """
 
     def __init__(self, number: int, rule: int | None = None):
         self.number = number
         self.name = NAMES.get(number, "Unknown")
         self.rule = rule
-        self.reply: bytes | None = None
+        self.messages: list[bytes] = []
         by = "" if rule is None else f", by {rule} {NAMES.get(rule, 'Unknown')}"
         super().__init__(f"{number} {self.name}{by}")
 

@@ -42,10 +42,10 @@ class Bolt1Test(unittest.TestCase):
         self.assertEqual(pong(bytes.fromhex("001200020000")), bytes.fromhex("001300020000"))
         self.assertEqual(pong(b"\0\x12" + (65_531).to_bytes(2, "big") + b"\0\0"), pong_of(65_531))
         self.assertIsNone(pong(b"\0\x12" + (65_532).to_bytes(2, "big") + b"\0\0"))
-        self.assertIsNone(pong(init(b"")))
-        with self.assertRaises(Refused) as caught:
-            pong(b"\0\x12\0")
-        self.assertEqual(caught.exception.number, 1)
+        for message, number in [(init(b""), 21), (b"\0\x12\0", 1)]:
+            with self.assertRaises(Refused) as caught:
+                pong(message)
+            self.assertEqual(caught.exception.number, number)
 
     def test_channel_of(self) -> None:
         self.assertEqual(channel_of(error(A, "text")), A)

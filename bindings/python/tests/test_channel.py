@@ -5,10 +5,11 @@ from __future__ import annotations
 import tempfile
 import unittest
 from pathlib import Path
+from threading import Thread
 
-from lnlink import Added, ChannelClosed, Closing, Commitment, Fee, Refused, Role, Shutdown, Sign, Status
+from lnlink import Add, Added, ChannelClosed, Closing, Commitment, Fee, Refused, Role, Shutdown, Sign, Status
 
-from ends import CHANNEL, End, Wire, config_of
+from ends import CHANNEL, ONION, End, Wire, config_of
 
 
 class ChannelTest(unittest.TestCase):
@@ -133,6 +134,22 @@ class ChannelTest(unittest.TestCase):
         wire.run()
         added = [e for e in wire.b.events.values() if isinstance(e, Added)]
         self.assertEqual([(e.own, e.id, e.amount_msat, e.cltv_expiry) for e in added], [(False, 0, 10_000, 500)])
+
+    def test_threads_share_a_channel(self) -> None:
+        wire = self.wire.opened()
+        sent: list[bytes] = []
+
+        def pays() -> None:
+            for _ in range(5):
+                sent.extend(wire.a.link.command(Add(10_000, bytes(32), 500, ONION)))
+
+        threads = [Thread(target=pays) for _ in range(4)]
+        for thread in threads:
+            thread.start()
+        for thread in threads:
+            thread.join()
+        self.assertEqual(sorted(int.from_bytes(message[34:42], "big") for message in sent), list(range(20)))
+        self.assertEqual(wire.a.link.summary().next_htlc_id, 20)
 
 
 if __name__ == "__main__":

@@ -11,6 +11,8 @@ from typing import Any, Callable
 
 from lnlink import (
     Add,
+    BlankItem,
+    Channel,
     Command,
     Config,
     Confirm,
@@ -30,7 +32,6 @@ from lnlink import (
     Shutdown,
     Sign,
     SignaturesBlank,
-    BlankItem,
     Status,
     error,
     print_message,
@@ -94,7 +95,7 @@ class RefusalTest(unittest.TestCase):
         link.done()
         blank = link.next()
         assert isinstance(blank, BlankItem) and isinstance(blank.blank, SignaturesBlank)
-        for filling in (b"", bytes(63), bytes(65), bytes(64 * 3)):
+        for filling in (b"", bytes(63), bytes(65)):
             self.refused(81, link.done, filling)
         self.assertEqual(link.next(), blank)
         wire.post(wire.a, wire.a.link.flush())
@@ -169,9 +170,12 @@ class RefusalTest(unittest.TestCase):
         record = Record.from_saved(saved)
         for data in (b"", saved[:-1], saved + b"\0", saved[:-40] + bytes([saved[-40] ^ 1]) + saved[-39:]):
             self.refused(70, Link.load, data)
-        other = Record(sha256(b"another channel"), record.signatures, record.secrets, record.record)
-        self.refused(70, Link.load, other.saved())
         Link.load(saved).close()
+        for end in (wire.a, wire.b):
+            end.link.close()
+        other = sha256(b"another channel")
+        wire.a.store.save(Record(other, record.signatures, (), record.record))
+        self.refused(70, Channel.load, other, wire.a.signer, wire.a.store)
 
     def test_71_a_record_of_a_later_version(self) -> None:
         wire = self.wire.opened()
@@ -310,13 +314,13 @@ class RefusalTest(unittest.TestCase):
         wire = self.wire.opened()
         other = sha256(b"another channel")
         refused = self.received(wire.a, 20, b"\0\x84" + other + bytes(64) + b"\0\0")
-        self.assertEqual(refused.reply, error(other, "refused 20"))
+        self.assertEqual(refused.messages, [error(other, "refused 20")])
         self.assertEqual(wire.a.link.summary().status, Status.READY)
 
     def test_21_a_message_out_of_place_fails_the_channel_for_good(self) -> None:
         wire = self.wire.opened()
         refused = self.received(wire.a, 21, b"\0\x23" + CHANNEL + bytes(64))
-        self.assertEqual(refused.reply, error(CHANNEL, "refused 21"))
+        self.assertEqual(refused.messages, [error(CHANNEL, "refused 21")])
         wire.a.load()
         summary = wire.a.link.summary()
         self.assertEqual((summary.status, summary.value), (Status.FAILED, 21))
@@ -405,13 +409,13 @@ class RefusalTest(unittest.TestCase):
         far = offer[:34] + fee + offer[42:106]
         wire.b.signer.verify_close = lambda closing, message: True  # type: ignore[method-assign]
         refused = self.refused(36, wire.b.link.receive, far)
-        self.assertEqual(refused.reply, warning(CHANNEL, "refused 36"))
+        self.assertEqual(refused.messages, [warning(CHANNEL, "refused 36")])
         self.assertEqual(wire.b.link.summary().status, Status.SHUT)
 
     def test_37_the_peer_sent_an_error(self) -> None:
         wire = self.wire.opened()
         refused = self.received(wire.a, 37, error(CHANNEL, "no more"))
-        self.assertIsNone(refused.reply)
+        self.assertEqual(refused.messages, [])
 
     def test_21_a_channel_that_has_a_record_is_not_opened_again(self) -> None:
         wire = self.wire.opened()

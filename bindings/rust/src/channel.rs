@@ -68,8 +68,8 @@ pub trait Signer {
 /// Why a call of a channel has no answer.
 #[derive(Debug)]
 pub enum Error {
-    /// The library refused it.
-    Refused(Refused),
+    /// The library refused it. These messages are to be sent even so, as an `error` or a `warning`.
+    Refused(Refused, Messages),
     /// The store, the signer or the wallet's handler of events failed; `Channel::flush` tries again.
     Host(BoxError),
 }
@@ -77,7 +77,7 @@ pub enum Error {
 impl fmt::Display for Error {
     fn fmt(&self, f: &mut fmt::Formatter<'_>) -> fmt::Result {
         match self {
-            Error::Refused(refused) => write!(f, "refused: {refused}"),
+            Error::Refused(refused, _) => write!(f, "refused: {refused}"),
             Error::Host(error) => write!(f, "the host failed: {error}"),
         }
     }
@@ -87,7 +87,7 @@ impl StdError for Error {}
 
 impl From<Refused> for Error {
     fn from(refused: Refused) -> Error {
-        Error::Refused(refused)
+        Error::Refused(refused, Messages::new())
     }
 }
 
@@ -141,12 +141,15 @@ impl<S: Signer, T: Store> Channel<S, T> {
     ///
     /// # Errors
     ///
-    /// As `Link::load`; the store's.
+    /// As `Link::load`; `Damaged`: the store gives another channel's record; the store's.
     pub fn load(channel: &Hash, signer: S, mut store: T, on_event: OnEvent) -> Result<Option<Self>, Error> {
         let Some(saved) = store.load(channel)? else {
             return Ok(None);
         };
         let link = Link::load(&saved)?;
+        if link.look()?.channel != Some(*channel) {
+            return Err(Refused::Damaged.into());
+        }
         Ok(Some(Channel::over(link, signer, store, on_event)))
     }
 
@@ -187,8 +190,8 @@ impl<S: Signer, T: Store> Channel<S, T> {
     ///
     /// # Errors
     ///
-    /// As `Link::message`: `reply_to` is what the peer is told, and by any number but 20 and 36 the connection is then
-    /// closed. The host's.
+    /// As `Link::message`: its messages are to be sent, and by any number but 20 and 36 the connection is then closed.
+    /// The host's.
     pub fn receive(&mut self, message: &[u8]) -> Result<Messages, Error> {
         let judged = self.answer(message)?;
         let answer = self.link.message(message, &judged);
@@ -215,7 +218,8 @@ impl<S: Signer, T: Store> Channel<S, T> {
         match self.command(&Command::Sign) {
             Err(Error::Refused(
                 Refused::NotReady | Refused::SignatureOutstanding | Refused::NothingToSign | Refused::Disconnected,
-            )) => Ok(Vec::new()),
+                messages,
+            )) => Ok(messages),
             answer => answer,
         }
     }
@@ -261,8 +265,11 @@ impl<S: Signer, T: Store> Channel<S, T> {
         while let Some(item) = self.link.next()? {
             self.take(item)?;
         }
-        answer?;
-        Ok(mem::take(&mut self.outbox))
+        let messages = mem::take(&mut self.outbox);
+        match answer {
+            Ok(()) => Ok(messages),
+            Err(refused) => Err(Error::Refused(refused, messages)),
+        }
     }
 
     fn take(&mut self, item: Item) -> Result<(), Error> {

@@ -34,7 +34,7 @@ pub fn check_init(message: &[u8], known: &[u16]) -> Result<(), Refused> {
 ///
 /// # Errors
 ///
-/// `Truncated` to `FieldLength`: it is no message; `Memory`.
+/// `OutOfPlace`: it is no `ping`. `Truncated` to `FieldLength`: it is no message; `Memory`.
 pub fn pong(message: &[u8]) -> Result<Option<Vec<u8>>, Refused> {
     Ok(Some(ffi::pong(message)?).filter(|bytes| !bytes.is_empty()))
 }
@@ -84,18 +84,6 @@ fn told(kind: u16, channel: &Hash, text: &str) -> Vec<u8> {
     message.extend_from_slice(&(text.len() as u16).to_be_bytes());
     message.extend_from_slice(text.as_bytes());
     message
-}
-
-/// What the peer is told where its message was refused: an `error` for most, a `warning` for `FeeOutside`.
-#[must_use]
-pub fn reply_to(refused: Refused, message: &[u8]) -> Option<Vec<u8>> {
-    let channel = channel_of(message).ok().flatten().unwrap_or_default();
-    let text = format!("refused {}", refused.number());
-    match refused.number() {
-        20..=35 => Some(error(&channel, &text)),
-        36 => Some(warning(&channel, &text)),
-        _ => None,
-    }
 }
 
 /// Bytes of a message from a place on.

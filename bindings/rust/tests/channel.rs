@@ -4,7 +4,7 @@
 mod common;
 
 use common::ends::{add, channel, Break, Wire};
-use lnlink::{Command, Commitment, Error, Event, Record, Refused, Signer, Status, Store, Wire as _};
+use lnlink::{Channel, Command, Commitment, Error, Event, Record, Refused, Signer, Status, Store, Wire as _};
 use std::fs::OpenOptions;
 use std::io::Write;
 
@@ -133,7 +133,7 @@ fn closes() {
 
 fn refusal<T: std::fmt::Debug>(answer: Result<T, Error>) -> Refused {
     match answer {
-        Err(Error::Refused(refused)) => refused,
+        Err(Error::Refused(refused, _)) => refused,
         other => panic!("{other:?}"),
     }
 }
@@ -166,9 +166,11 @@ fn a_wrong_signature_fails_the_channel() {
     let mut signed = wire.ends[1].inbox.pop_front().unwrap();
     signed[40] ^= 1;
     let fundee = wire.ends[1].channel();
-    assert_eq!(refusal(fundee.receive(&signed)), Refused::SignatureWrong);
-    let reply = lnlink::message::reply_to(Refused::SignatureWrong, &signed).unwrap();
-    assert_eq!(reply, lnlink::message::error(&channel(), "refused 31"));
+    let Err(Error::Refused(refused, messages)) = fundee.receive(&signed) else {
+        panic!("a wrong signature is taken");
+    };
+    assert_eq!(refused, Refused::SignatureWrong);
+    assert_eq!(messages, [lnlink::message::error(&channel(), "refused 31")]);
     wire.ends[1].load();
     let summary = wire.ends[1].channel().summary().unwrap();
     assert_eq!((summary.status, summary.value), (Status::Failed, 31));
@@ -200,7 +202,9 @@ fn records_are_refused() {
     assert_eq!(load(&saved[..saved.len() - 1]), Some(Refused::Damaged));
     let mut other = Record::from_bytes(&saved).unwrap();
     other.channel[0] ^= 1;
-    assert_eq!(load(&other.to_bytes()), Some(Refused::Damaged));
+    let (signer, mut store, on_event) = wire.ends[0].channel.take().unwrap().into_parts();
+    store.save(&other).unwrap();
+    assert_eq!(refusal(Channel::load(&other.channel, signer, store, on_event).map(|_| ())), Refused::Damaged);
 }
 
 #[test]

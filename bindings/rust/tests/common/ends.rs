@@ -281,7 +281,7 @@ impl Wire {
                 self.post(at, messages);
                 Ok(true)
             }
-            Err(Error::Refused(Refused::SignatureOutstanding | Refused::NothingToSign | Refused::NotCommitted)) => {
+            Err(Error::Refused(Refused::SignatureOutstanding | Refused::NothingToSign | Refused::NotCommitted, _)) => {
                 Ok(false)
             }
             Err(Error::Host(_)) => Err(Break::DiskFailed(at)),
