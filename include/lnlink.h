@@ -60,7 +60,7 @@ enum { LNL_FUNDER = 0, LNL_FUNDEE = 1 };
  *          list (type u64, value sized2) of open_channel's records
  * first_point is the own per-commitment point of commitment 0. */
 
-/* A funder's end. 70 where the spec is none, 40 where its values don't fit, LNL_ANSWER for a point of a wrong length. */
+/* A funder's end. 70 where the spec is none, 40 where its values don't fit, LNL_ANSWER for no point. */
 int32_t lnl_open(lnl_link *out, const uint8_t *spec, size_t len, const uint8_t *first_point, size_t n);
 
 /* A fundee's end. 70, 40 and LNL_ANSWER as above. */
@@ -94,7 +94,8 @@ int32_t lnl_disconnect(lnl_link *link);
  * Role is the own one.
  *   view    = funder_msat u64, fundee_msat u64, feerate_per_kw u32, list htlc
  *   htlc    = owner role u8, id u64, amount_msat u64, payment_hash 32, cltv_expiry u32
- *   closing = role u8, fee_satoshis u64, own_msat u64, peer_msat u64, own scriptpubkey sized2, peer's sized2 */
+ *   closing = role u8, fee_satoshis u64, own_msat u64, peer_msat u64, own scriptpubkey sized2, peer's sized2
+ *             (the fee isn't taken off the funder's balance) */
 int32_t lnl_question(lnl_link *link, const uint8_t *message, size_t len, uint8_t *out, size_t room, size_t *n);
 
 /* Takes a message with the answer to its question (n = 0 where there was none). By 21 to 35 and 37 the channel has

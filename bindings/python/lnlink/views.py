@@ -59,7 +59,7 @@ class View(Packed):
 
 @dataclass(frozen=True)
 class Closing(Packed):
-    """What a closing transaction pays. The funder pays the fee, which is still in its balance here."""
+    """What a closing transaction pays. The funder pays the fee, which isn't taken off its balance here."""
 
     role: RoleByte  # the own one
     fee_satoshis: U64

@@ -22,6 +22,7 @@ from lnlink import (
     Fulfilled,
     How,
     Malformed,
+    Mark,
     OpenSpec,
     Record,
     Refused,
@@ -147,7 +148,7 @@ class End:
         self.events: dict[int, Event] = {}
         self.inbox: deque[bytes] = deque()
         self.to_pay = 0
-        self.tell: Callable[[int, Event], None] = lambda number, event: None  # a test's, before an event is kept
+        self.tell: Callable[[int, Event], Mark | None] = lambda number, event: None  # a test's own
 
     @property
     def link(self) -> Channel:
@@ -155,10 +156,11 @@ class End:
         assert self.channel is not None
         return self.channel
 
-    def on_event(self, number: int, event: Event) -> None:
+    def on_event(self, number: int, event: Event) -> Mark | None:
         """Keeps the event. It is told again only where it is the same one."""
-        self.tell(number, event)
+        mark = self.tell(number, event)
         assert self.events.setdefault(number, event) == event
+        return mark
 
     def load(self) -> None:
         """Takes the channel up from its record, as after a restart."""

@@ -7,9 +7,27 @@ import unittest
 from pathlib import Path
 from threading import Thread
 
-from lnlink import Add, Added, ChannelClosed, Closing, Commitment, Fee, Refused, Role, Shutdown, Sign, Status
+from lnlink import (
+    Add,
+    Added,
+    ChannelClosed,
+    Closing,
+    Commitment,
+    Fee,
+    Fulfil,
+    Fulfilled,
+    FulfilMark,
+    HeldMark,
+    Refused,
+    Resume,
+    Role,
+    Shutdown,
+    Sign,
+    Status,
+)
 
 from ends import CHANNEL, ONION, End, Wire, config_of
+from signer import sha256
 
 
 class ChannelTest(unittest.TestCase):
@@ -134,6 +152,24 @@ class ChannelTest(unittest.TestCase):
         wire.run()
         added = [e for e in wire.b.events.values() if isinstance(e, Added)]
         self.assertEqual([(e.own, e.id, e.amount_msat, e.cltv_expiry) for e in added], [(False, 0, 10_000, 500)])
+
+    def test_holds_an_htlc_over_a_restart(self) -> None:
+        wire = self.wire.opened()
+        wire.b.tell = lambda number, event: HeldMark(number)
+        wire.command(wire.a, Add(10_000, sha256(bytes(32)), 500, ONION))
+        for end in (wire.a, wire.b):
+            wire.command(end, Sign())
+            wire.settle()
+        wire.b.tell = lambda number, event: None
+        wire.b.events.clear()
+        wire.restart(wire.b)
+        wire.connect()
+        wire.settle()
+        self.assertEqual(wire.b.events, {})  # it was decided: held
+        wire.b.link.command(Resume(0, FulfilMark(bytes(32))))
+        wire.command(wire.b, Fulfil(0, bytes(32)))
+        wire.run()
+        self.assertEqual(wire.a.settled(own=True), {0: Fulfilled(bytes(32))})
 
     def test_threads_share_a_channel(self) -> None:
         wire = self.wire.opened()

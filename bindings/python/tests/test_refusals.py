@@ -3,6 +3,7 @@
 from __future__ import annotations
 
 import hashlib
+import random
 import tempfile
 import unittest
 from ctypes import byref, c_size_t, create_string_buffer
@@ -38,6 +39,7 @@ from lnlink import (
     warning,
 )
 from lnlink.library import library, obey
+from lnlink.refusals import NAMES
 
 from ends import CHANNEL, ONION, SHORT_ID, TXID, End, Wire, config_of, preimage_of, spec_of
 from signer import RealSigner, sha256
@@ -203,6 +205,35 @@ class RefusalTest(unittest.TestCase):
                 self.refused(number, link.message, message)
                 self.refused(number, print_message, message)
         self.assertEqual(link.look().status, Status.READY)
+
+    def test_any_bytes_are_answered(self) -> None:
+        """Messages of a play, each with bytes turned, cut or added: every call answers by a known number."""
+        wire = self.wire.opened()
+        seen: list[bytes] = []
+
+        def listens() -> bool:
+            seen.extend([*wire.a.inbox, *wire.b.inbox])
+            return False
+
+        wire.before_delivery = listens
+        wire.a.to_pay = wire.b.to_pay = 3
+        wire.run()
+        saved = wire.b.store.load(CHANNEL) or b""
+        chance = random.Random(1)
+        for message in chance.choices(seen, k=300):
+            with Link.load(saved) as link:
+                link.connect()
+                turned = bytearray(message)
+                for _ in range(chance.randrange(4)):
+                    turned[chance.randrange(len(turned))] = chance.randrange(256)
+                data = bytes(turned[: chance.randrange(len(turned) + 20)]) + chance.randbytes(chance.randrange(3))
+                for call in (link.question, link.message, link.done, print_message):
+                    try:
+                        call(data)
+                    except Refused as refused:
+                        self.assertIn(refused.number, NAMES)
+                while link.next() is not None and not isinstance(link.next(), BlankItem):
+                    link.done()
 
     # ---- of commands
 

@@ -103,9 +103,9 @@ packed! {
         role: Role,
         /// In satoshi.
         fee_satoshis: u64,
-        /// The own balance without the fee, in msat.
+        /// The own balance, in msat; the fee isn't taken off.
         own_msat: u64,
-        /// The peer's, in msat.
+        /// The peer's, in msat; the fee isn't taken off.
         peer_msat: u64,
         /// What the own side is paid to.
         own_scriptpubkey: Vec<u8> as sized2,
