@@ -152,12 +152,17 @@ int32_t lnl_view(lnl_link *link, uint8_t which, uint8_t *out, size_t room, size_
 
 /* BOLT 1, of no link ---------------------------------------------------------------------------------------------- */
 
-/* An init message: features big-endian as in the message, m bytes of chain hashes, 32 each (m = 0: no networks). */
+/* An init message: features big-endian as in the message, m bytes of chain hashes, 32 each (m = 0: no networks). 8
+ * where m is no multiple of 32. */
 int32_t lnl_init(const uint8_t *features, size_t len, const uint8_t *chains, size_t m, uint8_t *out, size_t room,
                  size_t *n);
 
 /* Whether all even features of the peer's init are among the m known bits: 0, 9, a fault, or 21 for another message. */
 int32_t lnl_check_init(const uint8_t *message, size_t len, const uint16_t *known, size_t m);
+
+/* Whether the peer's init names no networks, or one of these chains, 32 bytes each: 0, a fault, or 21: it names others
+ * alone, or it is no init. */
+int32_t lnl_shares_chain(const uint8_t *message, size_t len, const uint8_t *chains, size_t m);
 
 /* The pong to a ping. *n = 0: none is wanted. 21: the message is no ping. */
 int32_t lnl_pong(const uint8_t *message, size_t len, uint8_t *out, size_t room, size_t *n);

@@ -109,6 +109,10 @@ static void bolt1(void) {
     IS(0, lnl_check_init(init, sizeof init, known, 3));
     IS(21, lnl_check_init(ping, sizeof ping, known, 3));
     IS(LNL_HANDLE, lnl_check_init(init, sizeof init, NULL, 1));
+    IS(0, lnl_shares_chain(init, sizeof init, config, 32));
+    IS(21, lnl_shares_chain(ping, sizeof ping, NULL, 0));
+    IS(LNL_HANDLE, lnl_shares_chain(init, sizeof init, NULL, 32));
+    IS(8, lnl_init(init + 6, 1, config, 31, out, sizeof out, &n));
     IS(0, lnl_channel(ping, sizeof ping, out, sizeof out, &n));
     IS(0, n != 0);
     IS(0, lnl_print(ping, sizeof ping, out, sizeof out, &n));

@@ -46,6 +46,7 @@ from .link import Link
 from .marks import FailMark, ForwardMark, FulfilMark, HeldMark, MalformedMark, Mark, NoMark
 from .messages import (
     channel_of,
+    check_chains,
     check_init,
     closing_signature_in,
     error,
@@ -135,6 +136,7 @@ __all__ = [
     "View",
     "channel_id",
     "channel_of",
+    "check_chains",
     "check_init",
     "closing_signature_in",
     "error",

@@ -37,6 +37,7 @@ _CALLS: dict[str, list[Any]] = {
     "lnl_view": [_LINK, c_uint8, *_OUT],
     "lnl_init": [*_IN, *_IN, *_OUT],
     "lnl_check_init": [*_IN, POINTER(c_uint16), c_size_t],
+    "lnl_shares_chain": [*_IN, *_IN],
     "lnl_pong": [*_IN, *_OUT],
     "lnl_channel": [*_IN, *_OUT],
     "lnl_print": [*_IN, *_OUT],

@@ -33,6 +33,12 @@ def check_init(message: bytes, known: Iterable[int]) -> None:
     obey(library.lnl_check_init, message, len(message), (c_uint16 * len(bits))(*bits), len(bits))
 
 
+def check_chains(message: bytes, chains: Iterable[bytes]) -> None:
+    """Whether the peer's `init` names no networks, or one of these chains; else 21, as where it is no `init`."""
+    hashes = b"".join(chains)
+    obey(library.lnl_shares_chain, message, len(message), hashes, len(hashes))
+
+
 def pong(message: bytes) -> bytes | None:
     """The answer to a `ping`; None where none is wanted. 21: it is no `ping`."""
     return fetch(library.lnl_pong, message, len(message)) or None

@@ -7,6 +7,7 @@ import unittest
 from lnlink import (
     Refused,
     channel_of,
+    check_chains,
     check_init,
     closing_signature_in,
     error,
@@ -37,6 +38,14 @@ class Bolt1Test(unittest.TestCase):
             with self.subTest(message=message), self.assertRaises(Refused) as caught:
                 check_init(message, [5])
             self.assertEqual(caught.exception.number, number)
+
+    def test_check_chains(self) -> None:
+        for message in (init(b""), init(b"", [A]), init(b"", [B, A])):
+            check_chains(message, [A])
+        for message in (init(b"", [B]), pong_of(0)):
+            with self.assertRaises(Refused) as caught:
+                check_chains(message, [A])
+            self.assertEqual(caught.exception.number, 21)
 
     def test_pong(self) -> None:
         self.assertEqual(pong(bytes.fromhex("001200020000")), bytes.fromhex("001300020000"))

@@ -39,6 +39,7 @@ extern "C" {
         n: *mut usize,
     ) -> i32;
     fn lnl_check_init(message: *const u8, len: usize, known: *const u16, m: usize) -> i32;
+    fn lnl_shares_chain(message: *const u8, len: usize, chains: *const u8, m: usize) -> i32;
     fn lnl_pong(message: *const u8, len: usize, out: *mut u8, room: usize, n: *mut usize) -> i32;
     fn lnl_channel(message: *const u8, len: usize, out: *mut u8, room: usize, n: *mut usize) -> i32;
     fn lnl_print(message: *const u8, len: usize, out: *mut u8, room: usize, n: *mut usize) -> i32;
@@ -145,6 +146,10 @@ pub(crate) fn init(features: &[u8], chains: &[u8]) -> Result<Vec<u8>, Refused> {
 
 pub(crate) fn check_init(message: &[u8], known: &[u16]) -> Result<(), Refused> {
     Refused::check(unsafe { lnl_check_init(message.as_ptr(), message.len(), known.as_ptr(), known.len()) })
+}
+
+pub(crate) fn shares_chain(message: &[u8], chains: &[u8]) -> Result<(), Refused> {
+    Refused::check(unsafe { lnl_shares_chain(message.as_ptr(), message.len(), chains.as_ptr(), chains.len()) })
 }
 
 pub(crate) fn pong(message: &[u8]) -> Result<Vec<u8>, Refused> {

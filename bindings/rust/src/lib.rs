@@ -9,7 +9,9 @@
 //! // BOLT 1 is of no channel.
 //! assert_eq!(message::pong(&[0, 18, 0, 2, 0, 0])?, Some(vec![0, 19, 0, 2, 0, 0]));
 //! assert_eq!(message::pong(&[0, 18, 0]), Err(Refused::Truncated));
-//! message::check_init(&message::init(&[0x10, 0x00], &[])?, &[12])?;
+//! let init = message::init(&[0x10, 0x00], &[[6; 32]])?;
+//! message::check_init(&init, &[12])?;
+//! message::check_chains(&init, &[[6; 32]])?;
 //! # Ok::<(), Refused>(())
 //! ```
 #![deny(unsafe_code)]

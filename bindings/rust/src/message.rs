@@ -30,6 +30,15 @@ pub fn check_init(message: &[u8], known: &[u16]) -> Result<(), Refused> {
     ffi::check_init(message, known)
 }
 
+/// Whether the peer's `init` names no networks, or one of these chains.
+///
+/// # Errors
+///
+/// `OutOfPlace`: it names others alone, or it is no `init`. `Truncated` to `FieldLength`: it is no message.
+pub fn check_chains(message: &[u8], chains: &[Hash]) -> Result<(), Refused> {
+    ffi::shares_chain(message, &chains.concat())
+}
+
 /// The answer to a `ping`; none where none is wanted.
 ///
 /// # Errors
