@@ -127,7 +127,7 @@ async def opens(role):
         s = Session(role)
         await s.open()
         await s.confirm(electrum_first)
-        assert s.init_verdict == 0 and s.init_verdict_of_none == 9
+        assert s.init_verdict == 0 and s.init_verdict_of_none == 9 and s.chain_verdict == 0
         assert s.host.link.look().status == lnlink.Status.READY and s.chan.get_state() == ChannelState.OPEN
         s.check_quiet()
         unhurt(s)
@@ -417,10 +417,10 @@ async def old_record_of_ours(role):
     await s.meet_again()
     await s.settle()
     assert ('channel_reestablish', 34) in s.host.refusals and s.host.lost_data
-    assert s.host.disk.signatures[0] in s.ledger.revealed       # so it may not be published
+    assert s.host.disk.signatures.number in s.ledger.revealed       # so it may not be published
     assert [(why, tx.txid()) for why, tx in s.broadcast()] == [('force-close', newest)]
     assert s.chan.get_oldest_unrevoked_ctn(LOCAL) == s.chan.get_latest_ctn(LOCAL)
-    s.note = 'commitment %d of %d on disk' % (s.host.disk.signatures[0], s.chan.get_latest_ctn(REMOTE))
+    s.note = 'commitment %d of %d on disk' % (s.host.disk.signatures.number, s.chan.get_latest_ctn(REMOTE))
     return s
 
 
@@ -435,7 +435,7 @@ async def old_record_of_electrum(role):
     await s.settle()
     assert ('channel_reestablish', 34) in s.host.refusals and not s.host.lost_data
     assert not s.broadcast() and s.chan.get_state() == ChannelState.WE_ARE_TOXIC, s.chan.get_state()
-    assert s.host.disk.signatures[0] not in s.ledger.revealed
+    assert s.host.disk.signatures.number not in s.ledger.revealed
     assert s.host.own_commitment().txid() == newest
     return s
 
@@ -453,11 +453,11 @@ async def has_what_the_chain_needs(role):
     s.check_quiet()
     tx = s.host.own_commitment()
     assert len(tx.outputs()) == 4 and tx.txid() == s.chan.get_latest_commitment(REMOTE).txid()
-    assert len(s.host.disk.signatures[2]) == 2
+    assert len(s.host.disk.signatures.htlc_signatures) == 2
     await s.lose()
     s.restart()
     assert s.host.own_commitment().txid() == tx.txid()
-    s.note = 'own commitment %d, %d revoked of the peer' % (s.host.disk.signatures[0], len(s.host.disk.secrets))
+    s.note = 'own commitment %d, %d revoked of the peer' % (s.host.disk.signatures.number, len(s.host.disk.secrets))
     return s
 
 

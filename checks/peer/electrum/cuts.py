@@ -119,7 +119,7 @@ async def every_old_record(role):
         s.restart(older[at])
         await s.meet_again()
         await s.settle()
-        lost = s.host.disk.signatures[0] in s.ledger.revealed
+        lost = s.host.disk.signatures.number in s.ledger.revealed
         assert s.host.lost_data == lost, 'the host is wrong about whether it may publish'
         if s.host.refusals:
             assert s.host.refusals == [('channel_reestablish', 34)], s.host.refusals

@@ -49,7 +49,6 @@ class Disk:
     def __init__(self, seed):
         self.seed = seed
         self.saved = None           # the last record, whole, as `Link.load` takes it
-        self.signatures = None      # the peer's over the own commitment: (number, signature, those of HTLCs)
         self.secrets = {}           # number of the peer's revoked commitment -> its secret
         self.terms = None           # the peer's open_channel or accept_channel
         self.funding = None         # (txid, output)
@@ -59,17 +58,20 @@ class Disk:
         self.older = None           # a list: what the disk had after each save is kept there
 
     def save(self, record):
-        """A RECORD item: the peer's newest signatures and secrets stand in it."""
+        """A RECORD item, whole. The peer's secrets stand in it once, so they are kept beside it."""
+        assert self.saved is None or self.signatures is None or record.signatures is not None
         self.saved = record.saved()
-        held = record.signatures
-        if held is not None:
-            self.signatures = (held.number, held.signature, tuple(held.htlc_signatures))
         for number, secret in record.secrets:
             assert self.secrets.get(number, secret) == secret
             self.secrets[number] = secret
         self.saves += 1
         if self.older is not None:
             self.older.append(self.copy())
+
+    @property
+    def signatures(self):
+        """The peer's over the own commitment, with its number, as the saved record has them."""
+        return None if self.saved is None else lnlink.Record.from_saved(self.saved).signatures
 
     def copy(self):
         """What a backup of this moment has."""
@@ -180,9 +182,6 @@ class Host:
         question = self.link.question(raw)
         answer = b'' if question is None else self.answer(question, message)
         number = self.call(name, self.link.message, raw, answer)
-        if 20 <= number <= 36:
-            say = lnlink.warning if number == 36 else lnlink.error
-            self.send(say(lnlink.channel_of(raw) or bytes(32), 'refused %d' % number))
         if name == 'channel_reestablish' and number == 0:
             self.remove_again()
         return number
@@ -251,7 +250,7 @@ class Host:
         if isinstance(blank, lnlink.SignaturesBlank):
             return self.keys.signatures(blank.number, blank.point, blank.view)
         if isinstance(blank, lnlink.RevocationBlank):
-            assert blank.secret_number < self.disk.signatures[0], 'a secret of the commitment that is on disk'
+            assert blank.secret_number < self.disk.signatures.number, 'a secret of the commitment that is on disk'
             return self.keys.reveal(blank.secret_number) + self.keys.point(blank.point_number)
         if isinstance(blank, lnlink.PointBlank):
             return self.keys.point(blank.number)
@@ -356,11 +355,11 @@ class Host:
 
     def own_commitment(self):
         """The own commitment with both signatures, from the disk alone, as it would be published."""
-        number, signature, htlc_signatures = self.disk.signatures
+        held = self.disk.signatures
         link = lnlink.Link.load(self.disk.saved)
         view = link.view(lnlink.Commitment.OWN)
-        assert link.look().commitment_number == number
+        assert link.look().commitment_number == held.number
         link.close()
-        assert self.keys.accepts(number, view, signature, htlc_signatures)
-        tx, _ = self.keys.commitment(True, number, self.keys.point(number), view)
-        return self.keys.complete(tx, signature)
+        assert self.keys.accepts(held.number, view, held.signature, held.htlc_signatures)
+        tx, _ = self.keys.commitment(True, held.number, self.keys.point(held.number), view)
+        return self.keys.complete(tx, held.signature)

@@ -31,7 +31,7 @@ class RandomRun:
         s = self.s
         await s.open()
         await s.confirm(self.chance.random() < 0.5)
-        for _ in range(self.chance.randrange(15, 45)):
+        for _ in range(self.chance.randrange(20, 60)):
             step = self.chance.choice((
                 self.electrum_pays, self.electrum_pays, self.electrum_pays, self.we_pay, self.we_pay, self.we_pay,
                 self.fee, self.wait, self.wait, self.quiet, self.lose, self.crash_soon, self.hold))

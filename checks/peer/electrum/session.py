@@ -71,7 +71,7 @@ class Session:
     """Both ends of one channel. `changed` has values of our Config, and Electrum's options as `el_NAME`."""
 
     def __init__(self, role, funding_sat=1_000_000, push_msat=400_000_000, feerate=1000, features=FEATURES,
-                 channel_type=STATIC_REMOTEKEY, **changed):
+                 channel_type=STATIC_REMOTEKEY, node_priv=None, **changed):
         self.loop = asyncio.get_running_loop()
         util._asyncio_event_loop = self.loop
         self.role = role
@@ -81,7 +81,7 @@ class Session:
         self.features = features
         self.channel_type = channel_type
         self.records = el.keep_log()
-        self.node_priv = os.urandom(32)
+        self.node_priv = node_priv or os.urandom(32)    # sessions of one node, as of one that forwards, share it
         self.node_id = ecc.ECPrivkey(self.node_priv).get_public_key_bytes(compressed=True)
         options = {k[3:]: v for k, v in changed.items() if k.startswith('el_')}
         self.worker = el.Worker(self.loop, el.make_config(tempfile.gettempdir(), options))
@@ -237,6 +237,7 @@ class Session:
         if name == 'init':
             self.init_verdict = verdict(lnlink.check_init, raw, KNOWN_EVEN)
             self.init_verdict_of_none = verdict(lnlink.check_init, raw, ())
+            self.chain_verdict = verdict(lnlink.shares_chain, raw, [el.CHAIN_HASH])
         elif name == 'ping':
             pong = lnlink.pong(raw)
             if pong:
@@ -427,8 +428,8 @@ class Session:
         assert self.ledger.signs_once(), 'a number was signed with two views'
         disk = self.host.disk
         if disk.signatures is not None:
-            assert disk.signatures[0] not in self.ledger.revealed, 'the own commitment on disk is revoked'
-            assert self.host.own_commitment().txid() == self.ledger.accepted[disk.signatures[0]]
+            assert disk.signatures.number not in self.ledger.revealed, 'the own commitment on disk is revoked'
+            assert self.host.own_commitment().txid() == self.ledger.accepted[disk.signatures.number]
 
     def check_quiet(self):
         """When nothing is under way: both ends tell the same of both commitments; our disk has all for the chain."""
