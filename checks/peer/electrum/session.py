@@ -237,7 +237,7 @@ class Session:
         if name == 'init':
             self.init_verdict = verdict(lnlink.check_init, raw, KNOWN_EVEN)
             self.init_verdict_of_none = verdict(lnlink.check_init, raw, ())
-            self.chain_verdict = verdict(lnlink.shares_chain, raw, [el.CHAIN_HASH])
+            self.chain_verdict = verdict(lnlink.check_chains, raw, [el.CHAIN_HASH])
         elif name == 'ping':
             pong = lnlink.pong(raw)
             if pong:
