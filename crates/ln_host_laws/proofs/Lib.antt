@@ -1,0 +1,7 @@
+pub mod Filling
+pub mod Turns
+pub mod Stages
+pub mod Links
+pub mod Unasked
+pub mod Courses
+pub mod Saved
