@@ -1,6 +1,7 @@
 -- What a host told where nothing was asked.
 use Rattle.std.proofs.Common.{◌≡◌, refl, sym, ap, ◌∙◌, subst, Bool, map, Option, Some, None, Result, Ok, Err}
 use Rattle.ln_refusals.specs.declared.refusal.Refusal.{Refusal}
+use Rattle.ln_keys.specs.Signer.{Signer}
 use Rattle.ln_msgs.specs.declared.messages.message.Message.{Message}
 use Rattle.ln_channel.specs.declared.machine.Stage.{Stage}
 use Rattle.ln_channel.specs.declared.output.Output.{Output}
@@ -16,7 +17,7 @@ use Rattle.ln_host.specs.Keys.{host_signer}
 use Rattle.ln_host.specs.Question.{question_of}
 use Rattle.ln_host.specs.Blank.{filling_by, filled, answered_by, blank_of}
 use Rattle.ln_host_laws.specs.Alike.{IsAlike}
-use Rattle.ln_host_laws.specs.Right.{IsRight}
+use Rattle.ln_host_laws.specs.Right.{IsRight, told_for}
 use Rattle.ln_host_laws.specs.Filled.{filled_output, filled_row}
 use Rattle.ln_host_laws.proofs.Links.{message_law}
 
@@ -35,6 +36,12 @@ right_itself : (h : HostKeys) (q : Option Question) (m : Message) → IsRight (h
 right_itself h None m = tt
 right_itself h (Some (question.New channel)) m = tt
 right_itself h (Some q) m = refl
+
+-- and by keys that a host asks
+pub told_right : (k : Signer) (q : Option Question) (m : Message) → IsRight k (told_for k q m) q m
+told_right k None m = tt
+told_right k (Some (question.New channel)) m = tt
+told_right k (Some q) m = refl
 
 -- ---- what is filled in doesn't depend on what was told of the message
 

@@ -1,5 +1,5 @@
 -- When what a host told before a message is right: by its own keys, for what the message has to be judged by (BOLT 2).
-use Rattle.std.specs.Prelude.{◌≡◌, ℕ, List, [], Option, Some, None, ⊤}
+use Rattle.std.specs.Prelude.{◌≡◌, ℕ, List, [], replicate, Bool, false, Option, Some, None, ⊤}
 use Rattle.ln_keys.specs.Signer.{Signer}
 use Rattle.ln_msgs.specs.declared.messages.message.Message.{Message}
 use Rattle.ln_msgs.specs.declared.messages.message.Message.TheVariants as message
@@ -43,3 +43,25 @@ IsRightFor k h (question.OwnSecret number) m = h.secret ≡ k.secret_of number
 abbrev pub IsRight : Signer → HostKeys → Option Question → Message → Type 0
 IsRight k h None m = ⊤
 IsRight k h (Some q) m = IsRightFor k h q m
+
+-- ---- what a host tells that asks its own keys
+
+abbrev pub judgement_of : Signer → Option Question → Message → Bool
+judgement_of k (Some (question.First channel view)) m =
+    k.accepts 0 (k.point_of 0) view (signature_in m) (htlc_signatures_in m)
+judgement_of k (Some (question.Signatures role number view)) m =
+    k.accepts number (k.point_of number) view (signature_in m) (htlc_signatures_in m)
+judgement_of k (Some (question.Secret number point)) m = k.fits (secret_in m) point
+judgement_of k (Some (question.Close t)) m = k.accepts_close t.fee_satoshis (signature_in m)
+judgement_of k q m = false
+
+abbrev pub secret_told : Signer → Option Question → List ℕ
+secret_told k (Some (question.OwnSecret number)) = k.secret_of number
+secret_told k q = replicate 32 0
+
+abbrev pub told_for : Signer → Option Question → Message → HostKeys
+told_for k q m = record {
+  first_point = k.point_of 0;
+  is_right = judgement_of k q m;
+  secret = secret_told k q;
+}

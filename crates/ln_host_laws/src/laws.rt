@@ -1,7 +1,7 @@
 //! A link by what its host told, and one by the host's own keys: each call hands out the same once the blanks are
 //! filled, refuses by the same number and leaves the same (BOLT 2).
 
-ghost use Rattle.std.specs.Prelude.{◌≡◌, List, None};
+ghost use Rattle.std.specs.Prelude.{◌≡◌, List, Option, None};
 ghost use Rattle.ln_msgs.specs.declared.messages.message.Message.{Message};
 ghost use Rattle.ln_keys.specs.Signer.{Signer};
 ghost use Rattle.ln_channel.specs.declared.command.Command.{Command};
@@ -10,11 +10,12 @@ ghost use Rattle.ln_channel.specs.Base.{based_stage};
 ghost use Rattle.ln_channel.specs.State.{State};
 ghost use Rattle.ln_channel.specs.Step.{handled, commanded, connected};
 ghost use Rattle.ln_host.specs.declared.keys.HostKeys.{HostKeys};
+ghost use Rattle.ln_host.specs.declared.question.Question.{Question};
 ghost use Rattle.ln_host.specs.Keys.{host_signer};
 ghost use Rattle.ln_host.specs.Question.{question_of};
 ghost use Rattle.ln_host.specs.Blank.{blank_of};
 ghost use Rattle.ln_host_laws.specs.Alike.{IsAlike};
-ghost use Rattle.ln_host_laws.specs.Right.{IsRight};
+ghost use Rattle.ln_host_laws.specs.Right.{IsRight, told_for};
 ghost use Rattle.ln_host_laws.specs.Filled.{filled_row};
 ghost use Rattle.ln_host_laws.specs.Course.{Step, AreToldRight, host_run, host_outputs, own_run, own_outputs};
 ghost use Rattle.ln_host_laws.specs.Course.{record_of};
@@ -28,6 +29,11 @@ pub fn messages_are_as_by_the_keys<K: ChannelKeys>()
     ensures { (k : Signer) (h : HostKeys) (l : State HostKeys) (l' : State K) (m : Message)
         → h.first_point ≡ k.point_of 0 → IsAlike l l' → IsRight k h (question_of l m) m
         → filled_row k (handled (host_signer h) l m) ≡ handled k l' m }
+{}
+
+/// A law: what a host tells that asks its own keys is right, whatever the question.
+pub fn keys_tell_right()
+    ensures { (k : Signer) (q : Option Question) (m : Message) → IsRight k (told_for k q m) q m }
 {}
 
 /// A law: of what a host told no command needs more than the own first point.

@@ -6,5 +6,6 @@ mod laws;
 
 pub use laws::{
     blanks_are_of_the_saved_link, calls_are_as_by_the_keys, commands_are_as_by_the_keys,
-    connections_are_as_by_the_keys, messages_are_as_by_the_keys, only_what_is_asked_decides,
+    connections_are_as_by_the_keys, keys_tell_right, messages_are_as_by_the_keys,
+    only_what_is_asked_decides,
 };
