@@ -5,3 +5,4 @@ pub mod Links
 pub mod Unasked
 pub mod Courses
 pub mod Saved
+pub mod Known

@@ -1,14 +1,17 @@
 //! A link by what its host told, and one by the host's own keys: each call hands out the same once the blanks are
 //! filled, refuses by the same number and leaves the same (BOLT 2).
 
-ghost use Rattle.std.specs.Prelude.{◌≡◌, List, Option, None};
+ghost use Rattle.std.specs.Prelude.{◌≡◌, List, true, Option, None};
 ghost use Rattle.ln_msgs.specs.declared.messages.message.Message.{Message};
 ghost use Rattle.ln_keys.specs.Signer.{Signer};
 ghost use Rattle.ln_channel.specs.declared.command.Command.{Command};
 ghost use Rattle.ln_channel.specs.declared.machine.Stage.{Stage};
+ghost use Rattle.ln_channel.specs.Asking.{reaches_channel};
 ghost use Rattle.ln_channel.specs.Base.{based_stage};
 ghost use Rattle.ln_channel.specs.State.{State};
-ghost use Rattle.ln_channel.specs.Step.{handled, commanded, connected};
+ghost use Rattle.ln_channel.specs.Step.{handled, commanded, connected, opened};
+ghost use Rattle.ln_store.specs.Store.{Records};
+ghost use Rattle.ln_link.specs.Saving.{is_known, handled_beside};
 ghost use Rattle.ln_host.specs.declared.keys.HostKeys.{HostKeys};
 ghost use Rattle.ln_host.specs.declared.question.Question.{Question};
 ghost use Rattle.ln_host.specs.Keys.{host_signer};
@@ -17,6 +20,7 @@ ghost use Rattle.ln_host.specs.Blank.{blank_of};
 ghost use Rattle.ln_host_laws.specs.Alike.{IsAlike};
 ghost use Rattle.ln_host_laws.specs.Right.{IsRight, told_for};
 ghost use Rattle.ln_host_laws.specs.Filled.{filled_row};
+ghost use Rattle.ln_host_laws.specs.Known.{channel_asked};
 ghost use Rattle.ln_host_laws.specs.Course.{Step, AreToldRight, host_run, host_outputs, own_run, own_outputs};
 ghost use Rattle.ln_host_laws.specs.Course.{record_of};
 
@@ -63,6 +67,17 @@ pub fn only_what_is_asked_decides()
         → filled_row (host_signer h') (handled (host_signer h) l m) ≡ handled (host_signer h') l m }
     ensures whole { (h h' : HostKeys) (l : State HostKeys) (m : Message) → h.first_point ≡ h'.first_point
         → h.secret ≡ h'.secret → question_of l m ≡ None → handled (host_signer h) l m ≡ handled (host_signer h') l m }
+{}
+
+/// A law: before a message that reaches the channel, a host is asked whether it knows a channel exactly where the
+/// message opens that one. Over two stores that both know it, or neither, a message is answered alike.
+pub fn new_channels_are_asked_about<K: ChannelKeys>()
+    ensures asked { (l : State K) (m : Message) → reaches_channel l m ≡ true
+        → channel_asked (question_of l m) ≡ opened l m }
+    ensures stores { (k : Signer) (h : HostKeys) (l : State HostKeys) (l' : State K) (m : Message) (rs rs' : Records)
+        → h.first_point ≡ k.point_of 0 → IsAlike l l' → IsRight k h (question_of l m) m
+        → is_known (opened l m) rs ≡ is_known (opened l m) rs'
+        → filled_row k (handled_beside rs (host_signer h) l m) ≡ handled_beside rs' k l' m }
 {}
 
 /// A law: over every list of calls, in which what is told before each message is right, a link by its host hands out
