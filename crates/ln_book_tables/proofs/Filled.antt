@@ -95,9 +95,9 @@ apart_as at bt same apart k i j one other =
 stays_by : (e : Bool) (at : ℕ → Option Key) (place i : ℕ) (key : Option Key) (k : Key) → nat_eq i place ≡ e
     → at place ≡ None → is_named k (at i) ≡ true → is_named k (cond e key (at i)) ≡ true
 stays_by true at place i key k e none is = absurd (
-  let no : true ≡ false = sym is ∙ ap (λ n. is_named k (at n)) (eqb-true i place e) ∙ ap (is_named k) none in
-  cc
-)
+    let no : true ≡ false = sym is ∙ ap (λ n. is_named k (at n)) (eqb-true i place e) ∙ ap (is_named k) none in
+    cc
+    )
 stays_by false at place i key k e none is = is
 
 -- nothing stands there yet, and what comes there stands nowhere else

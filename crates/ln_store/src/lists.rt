@@ -29,10 +29,7 @@ fn items_at<T: Stored + Drop>(
 }
 
 /// The list at the front of the bytes: a count in eight bytes, and the values.
-pub fn list_at<T: Stored + Drop>(
-    alloc: Global,
-    bytes: &[u8],
-) -> Result<(Listed<T>, &[u8]), Refusal>
+pub fn list_at<T: Stored + Drop>(alloc: Global, bytes: &[u8]) -> Result<(Listed<T>, &[u8]), Refusal>
     ensures { Finds (λ x. (x.0, x.1.now)) result (list_in T.format bytes.now) }
 {
     let (count, rest) = u64_at(bytes)?;

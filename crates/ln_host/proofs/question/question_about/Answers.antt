@@ -15,7 +15,7 @@ returns-in-Some-clause-asked g c = λ l s.
     let reaches = sym (c.reaches_channel.ensures l s) ∙ c.if-not-reaches_channel.false in
     let saved = sym (c.saved.ensures.end l s) ∙ ap option_copied c.in-Some.is in
     let asked = ap (λ (x : ConnectionState). asked_saved x m e) (c.connection.ensures l s)
-        ∙ sym (of_saved l m e reaches saved) in
+    ∙ sym (of_saved l m e reaches saved) in
     subst (λ (q : Option Question). IfOk c.asked_saved.result (λ r. r ≡ q)) asked (c.asked_saved.ensures.asked e refl)
 
 pub returns-in-Some-agreed-clause-asked : goal.returns-in-Some-agreed-clause-asked
