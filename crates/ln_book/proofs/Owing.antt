@@ -220,7 +220,7 @@ due-so d s v f r k o d' s' v' f' r' ed es ev ef er e =
     ∙ ap (λ b. due-by d s v b r' k) ef ∙ ap (λ b. due-by d s v f b k) er ∙ e
 
 -- the HTLC of an offer that was answered isn't due one
-pub not-nowhere : (c : List ℕ) (h : Htlc) (k : Key) → has_nothing_offered h.outgoing ≡ false
+not-nowhere : (c : List ℕ) (h : Htlc) (k : Key) → has_nothing_offered h.outgoing ≡ false
     → due c h ≡ Some (out.Adding k) → ⊥
 not-nowhere c h k here e =
     elim (due-of c h (out.Adding k) e) [

@@ -22,7 +22,6 @@ pub use switch::laws::{
     what_is_lost_is_owed_again, what_is_owed_can_be_taken,
     what_is_refused_for_now_is_handed_out_again, what_was_decided_is_not_decided_again,
     what_was_offered_is_not_offered_again, what_was_removed_is_not_removed_again,
-    what_was_removed_while_it_was_held_goes_nowhere,
 };
 pub use switch::saying::Saying;
 pub use switch::snapshots::read_end;

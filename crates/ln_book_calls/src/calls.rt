@@ -5,7 +5,6 @@ use crate::node::Node;
 use crate::onion::onion_of;
 use crate::payments::payments;
 use crate::show::{show_command, show_held, show_mark};
-use crate::times::{Answered, Pattern};
 use ln_book::Book;
 use ln_bytes::{Bytes, ShortId};
 use ln_forward::Policy;
@@ -198,8 +197,9 @@ fn paid(alloc: Global, book: &mut Book, words: &[u64]) -> Result<String, AllocEr
     }
 }
 
-// Calls by a line that is said once.
-fn call_once(alloc: Global, node: &mut Node, line: &str) -> Result<String, AllocError> {
+/// Calls the book, or the ends of channels, by a line, and says what it answers. A line that begins with # is said
+/// again.
+pub fn call(alloc: Global, node: &mut Node, line: &str) -> Result<String, AllocError> {
     let words = numbers(alloc, line)?;
     let words = words.as_slice();
     match line.split(' ').next().unwrap_or("") {
@@ -209,7 +209,6 @@ fn call_once(alloc: Global, node: &mut Node, line: &str) -> Result<String, Alloc
         | "down"
         | "offer"
         | "pay"
-        | "fail"
         | "sign"
         | "obey"
         | "settle"
@@ -219,38 +218,6 @@ fn call_once(alloc: Global, node: &mut Node, line: &str) -> Result<String, Alloc
             String::from_str(alloc, "done")
         }
         word => call_book(alloc, &mut node.book, word, words),
-    }
-}
-
-// Calls by lines that stand beside each other.
-fn call_all(alloc: Global, node: &mut Node, lines: &str) -> Result<String, AllocError> {
-    let mut text = String::new(alloc);
-    for line in lines.split("; ") {
-        if !text.is_empty() {
-            text.push_str("; ")?;
-        }
-        let answer = call_once(alloc, node, line)?;
-        text.push_str(answer.as_str())?;
-    }
-    Ok(text)
-}
-
-// Calls by lines that are said many times.
-fn call_times(alloc: Global, node: &mut Node, pattern: Pattern) -> Result<String, AllocError> {
-    let mut answered = Answered::new(alloc);
-    for number in 0..pattern.count {
-        let lines = pattern.lines_of(alloc, number)?;
-        answered.put(call_all(alloc, node, lines.as_str())?);
-    }
-    answered.shown(alloc)
-}
-
-/// Calls the book, or the ends of channels, by a line, and says what it answers. A line that begins with # is said
-/// again. `times COUNT LINES` says lines, with `; ` between them, so many times, with the number in place of each `$`.
-pub fn call(alloc: Global, node: &mut Node, line: &str) -> Result<String, AllocError> {
-    match Pattern::of(line) {
-        None => call_once(alloc, node, line),
-        Some(pattern) => call_times(alloc, node, pattern),
     }
 }
 

@@ -9,7 +9,6 @@ mod node;
 mod onion;
 mod payments;
 mod show;
-mod times;
 
 use calls::call;
 use node::Node;

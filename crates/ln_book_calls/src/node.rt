@@ -4,7 +4,6 @@ use crate::ends::{Ends, Shown, Signing};
 use crate::onion::onion_of;
 use crate::show::show_command;
 use ln_book::{Book, ChannelSnapshot, Kept};
-use ln_bytes::Bytes;
 use ln_channel::Command;
 use ln_hooks::Verdict;
 use ln_keys::{ToyOnion, sha256_32};
@@ -26,15 +25,6 @@ pub struct Node {
     pub book: Box<Book>,
     pub verdict: Verdict,
     channels: Vec<NodeChannel>,
-}
-
-/// The id of a channel: a small number 32 times; a larger one, in eight bytes, before such bytes.
-fn channel_of(number: u64) -> ChannelId {
-    let mut channel = bytes_of(number);
-    if number > 255 {
-        channel[..8].copy_from_slice(&number.to_be_bytes());
-    }
-    channel
 }
 
 /// Decides each event by what the hooks say, and hears what became of HTLCs. Says how many there were.
@@ -108,11 +98,6 @@ impl NodeChannel {
                 let preimage = bytes_of(at(words, 3));
                 self.ends
                     .answer(alloc, Command::Fulfil { id, preimage }, told)
-            }
-            "fail" => {
-                let id = at(words, 2);
-                let reason = Bytes::from_slice(alloc, &[7; 32])?;
-                self.ends.obey(alloc, Command::Fail { id, reason }, told)
             }
             "sign" => self.ends.sign(alloc, signing_of(at(words, 2)), told),
             "up" => self.ends.connect(alloc, told),
@@ -190,7 +175,7 @@ impl Node {
 
     /// A line of one channel's ends: how many events the node's end tells of.
     fn play(&mut self, alloc: Global, word: &str, words: &[u64]) -> Result<usize, Refusal> {
-        let channel = channel_of(at(words, 1));
+        let channel = bytes_of(at(words, 1));
         if word == "open" {
             return self.open(alloc, channel);
         }
@@ -259,7 +244,7 @@ impl Node {
 
     /// A line of channels.
     pub fn call(&mut self, alloc: Global, word: &str, words: &[u64]) -> Result<String, AllocError> {
-        let channel = channel_of(at(words, 1));
+        let channel = bytes_of(at(words, 1));
         if word == "obey" {
             return match self.obey(alloc, channel) {
                 Ok(shown) => Ok(shown),

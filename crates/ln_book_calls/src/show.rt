@@ -9,7 +9,7 @@ use std::alloc::{AllocError, Global};
 use std::fmt::Write;
 
 /// The first eight bytes, as a number.
-pub fn front(bytes: &[u8; 32]) -> u64 {
+fn front(bytes: &[u8; 32]) -> u64 {
     let mut eight = [0; 8];
     eight.copy_from_slice(&bytes[..8]);
     u64::from_be_bytes(eight)
@@ -63,17 +63,11 @@ fn put_held(text: &mut String, held: &HeldHtlc) -> Result<(), AllocError> {
     write!(text, " {channel} {number} {id} {amount} {hash} {expiry},")
 }
 
-/// What is held, one behind the other: the channel's first byte, number, id, amount, hash and expiry. Of more than 100
-/// how many they are, and the beginning of the SHA-256 of that text as a number.
+/// What is held, one behind the other: the channel's first byte, number, id, amount, hash and expiry.
 pub fn show_held(alloc: Global, all: &[HeldHtlc]) -> Result<String, AllocError> {
     let mut text = String::from_str(alloc, "held")?;
     for held in all {
         put_held(&mut text, held)?;
-    }
-    let count = all.len();
-    if count > 100 {
-        let sum = sum(text.as_bytes());
-        return format!(in alloc; "held {count}: {sum}");
     }
     Ok(text)
 }

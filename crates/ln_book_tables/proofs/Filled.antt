@@ -165,7 +165,12 @@ kept_changed c ss ts i old new kept e indexed same =
     record {
       indexed = indexed;
       counted = record {
-        count = λ exact. omega (arith, held, ap count_in same, kept.counted.count (subst IsTrue (ap (λ x. x.exact) same) exact));
+        count = λ exact. omega (
+          arith,
+          held,
+          ap count_in same,
+          kept.counted.count (subst IsTrue (ap (λ x. x.exact) same) exact),
+        );
         room = omega (arith, held, ap room_in same, kept.counted.room);
       };
       exact = λ apart. subst IsTrue (sym (ap (λ x. x.exact) same))

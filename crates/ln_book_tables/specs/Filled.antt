@@ -1,5 +1,5 @@
--- What holds of the slots of a book for life: at least half of them hold something, and as long as no two HTLCs have one
--- key, the index by key is exact. So a book takes memory by the HTLCs that it has, and finds each without a walk.
+-- What holds of the slots of a book for life: at least half of them hold something, and as long as no two HTLCs have
+-- one key, the index by key is exact. So a book takes memory by the HTLCs that it has, and finds each without a walk.
 use Rattle.std.specs.Prelude.{◌≡◌, ℕ, ◌+◌, ◌*◌, ◌≤◌, List, length, true, Option, Some, None, IsTrue}
 use Rattle.indexmap.specs.IndexMap.{index_map_len, spare}
 use Rattle.ln_book_tables.specs.declared.htlc.Key.{Key}

@@ -98,7 +98,8 @@ impl Indices {
         ensures indexed { (ss : List (Option Htlc)) → length ss ≡ place → IsIndexed ss self.old
             → IsIndexed (ss ++ slot.now ∷ []) self.new }
         ensures counted { (ss : List (Option Htlc)) → IsCounted ss self.old.by_key
-            → held_in (ss ++ slot.now ∷ []) ≤ room_in self.old.by_key → IsCounted (ss ++ slot.now ∷ []) self.new.by_key }
+            → held_in (ss ++ slot.now ∷ []) ≤ room_in self.old.by_key
+            → IsCounted (ss ++ slot.now ∷ []) self.new.by_key }
         ensures exact { (ss : List (Option Htlc)) → length ss ≡ place → IsIndexed ss self.old
             → IsCounted ss self.old.by_key → held_in (ss ++ slot.now ∷ []) ≤ room_in self.old.by_key
             → IsExact ss self.old.by_key → IsExact (ss ++ slot.now ∷ []) self.new.by_key }

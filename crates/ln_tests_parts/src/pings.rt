@@ -263,27 +263,26 @@ fn failing_writes(rt: HostRuntime) {
     assert!(rt; result_of(rt.alloc(), NEVER, 27) == (Ok(3), Some(24), 0));
 }
 
-/// A connection whose other side sends pings in pieces, which may end inside a frame, and fails where the next piece is
-/// read before the pong of each ping that came whole was written and flushed.
+/// The two ends of a connection whose other side sends its next ping only once it has the pong for the last: each read
+/// sees how many bytes were flushed before it.
 #[derive(Drop)]
-struct Strict<'a> {
+struct Peer<'a> {
     flushed: &'a Cell<usize>,
-    rest: &'a [u8],
-    given: usize,
-    piece: usize,
+    asked: usize,
+    missed: bool,
 }
 
-impl Read for Strict<'_> {
+impl Read for Peer<'_> {
     fn read(&mut self, buffer: &mut [u8]) -> io::Result<usize> {
-        if self.flushed.get() != self.given / 8 * 8 {
-            return Err(io::Error::from(ErrorKind::BrokenPipe));
+        if self.flushed.get() != self.asked.saturating_mul(8) {
+            self.missed = true;
         }
-        let count = self.rest.len().min(buffer.len()).min(self.piece);
-        let (piece, rest) = self.rest.split_at(count);
-        buffer[..count].copy_from_slice(piece);
-        self.rest = rest;
-        self.given = self.given.saturating_add(count);
-        Ok(count)
+        if self.asked == 3 || buffer.len() < 8 {
+            return Ok(0);
+        }
+        self.asked = self.asked.saturating_add(1);
+        buffer[..8].copy_from_slice(&PING);
+        Ok(8)
     }
 }
 
@@ -305,28 +304,21 @@ impl Write for Sent<'_> {
     }
 }
 
-/// Whether pings that come in pieces of so many bytes are answered, with no read while a pong is owed.
-fn is_answered_in_turn(alloc: Global, piece: usize) -> bool {
+#[test]
+fn pongs_before_the_next_read(rt: HostRuntime) {
     let flushed = Cell::new(0);
-    let mut reader = Counted::new(Strict {
+    let mut reader = Counted::new(Peer {
         flushed: &flushed,
-        rest: &PINGS,
-        given: 0,
-        piece,
+        asked: 0,
+        missed: false,
     });
     let mut writer = Counted::new(Sent {
         flushed: &flushed,
         written: 0,
     });
-    answer_pings(alloc, &mut reader, &mut writer) == Ok(3) && writer.get_ref().written == 24
-}
-
-// A piece of 8 is one frame; one of 11 has the beginning of the next; one of 16 has two; one of 24 all.
-#[test]
-fn no_read_while_a_pong_is_owed(rt: HostRuntime) {
-    for piece in 1..25 {
-        assert!(rt; is_answered_in_turn(rt.alloc(), piece), "{piece}");
-    }
+    assert!(rt; answer_pings(rt.alloc(), &mut reader, &mut writer) == Ok(3));
+    assert!(rt; !reader.get_ref().missed);
+    assert!(rt; writer.get_ref().written == 24);
 }
 
 #[test]

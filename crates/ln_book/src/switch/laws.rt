@@ -2,8 +2,6 @@
 
 ghost use Rattle.std.specs.Prelude.{◌≡◌, ◌⊎◌, ◌<◌, ℕ, List, true, false, not, ◌&&◌, Some, Ok, Err, is_some, is_none};
 ghost use Rattle.std.specs.List.{find, list_any};
-ghost use Rattle.ln_log.specs.declared.mark.Mark.{Mark};
-ghost use Rattle.ln_log.specs.Mark.{is_held};
 ghost use Rattle.ln_log.specs.declared.update.Add.{Add};
 ghost use Rattle.ln_log.specs.declared.update.Update.TheVariants as update;
 ghost use Rattle.ln_log.specs.Limits.{is_at_update_limit};
@@ -24,11 +22,10 @@ ghost use Rattle.ln_book_tables.specs.declared.entry.Entry.{Entry};
 ghost use Rattle.ln_book_tables.specs.declared.entry.Entry.TheVariants as entry;
 ghost use Rattle.ln_history.specs.History.{History, with_entry};
 ghost use Rattle.ln_book_tables.specs.Replay.{Table, table_of, pending_command_at, is_htlc, is_open, htlc_kept};
-ghost use Rattle.ln_book_tables.specs.Replay.{same, is_among, is_queued, put_mark};
+ghost use Rattle.ln_book_tables.specs.Replay.{same, is_among, is_queued};
 ghost use Rattle.ln_book.specs.Commands.{Services, first_command, with_taken, due, command_by};
 ghost use Rattle.ln_book.specs.Answers.{replied};
-ghost use Rattle.ln_book.specs.Owing.{IsIn, Owes, is_lost};
-ghost use Rattle.ln_book.specs.Rebuild.{ChannelSnapshot, rebuilt};
+ghost use Rattle.ln_book.specs.Owing.{Owes, is_lost};
 ghost use Rattle.ln_book.specs.Uses.{takes_payments};
 
 /// A command that was handed out, and that its channel has refused for now, is handed out again next: 47, as it isn't
@@ -89,14 +86,6 @@ pub fn what_was_removed_is_not_removed_again()
         × ((e d : List ℕ) (j : Key) (told : KeptState)
         → (same e h.key.channel ≡ true → is_among h.key.id told.removes ≡ true)
         → due d (htlc_kept e told g) ≡ Some (out.Removing j) → ⊥) }
-{}
-
-/// An HTLC that was removed by hand while it was held, and whose removal its channel has kept, is offered in no channel
-/// after a restart, by whatever it is resumed.
-pub fn what_was_removed_while_it_was_held_goes_nowhere()
-    ensures { (t : Table) (rs : List ChannelSnapshot) (h : Htlc) → IsIn h (rebuilt t rs).htlcs
-        → is_held h.mark ≡ true → is_open h.incoming ≡ false
-        → (m : Mark) (c : List ℕ) (k : Key) → due c (put_mark m h) ≡ Some (out.Adding k) → ⊥ }
 {}
 
 /// A decision that was taken isn't queued again.

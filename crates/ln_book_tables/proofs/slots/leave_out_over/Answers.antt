@@ -11,7 +11,8 @@ use Rattle.ln_book_tables.proofs.slots.leave_out_over.Goals as goal
 
 pub index_all-requires-clause-keys : goal.index_all-requires-clause-keys
 index_all-requires-clause-keys c =
-    let same = filter_same _ (λ s. not (passes is_over s)) _ (λ x b f' k. search rules) _ _ c.retain.ensures.filtered in
+    let same =
+    filter_same _ (λ s. not (passes is_over s)) _ (λ x b f' k. search rules) _ _ c.retain.ensures.filtered in
     omega (
       arith,
       ap held_in c.as_slice.ensures.value,
@@ -23,7 +24,8 @@ index_all-requires-clause-keys c =
 pub returns-clause-left : goal.returns-clause-left
 returns-clause-left c =
     c.squeeze.ensures.same
-    ∙ ap in_slots (filter_same _ (λ s. not (passes is_over s)) _ (λ x b f' k. search rules) _ _ c.retain.ensures.filtered)
+    ∙ ap in_slots
+    (filter_same _ (λ s. not (passes is_over s)) _ (λ x b f' k. search rules) _ _ c.retain.ensures.filtered)
     ∙ in_left is_over c.args.slots.now.items
 
 pub returns-then-has_none_over-clause-left : goal.returns-then-has_none_over-clause-left
