@@ -1,0 +1,9 @@
+//! The calls of the library for other languages, by bytes: what `lnlink_c` exports.
+#![tactic(auto)]
+
+mod connection;
+mod link;
+mod summary;
+
+pub use connection::{channel, check_init, init, pong, print, shares_chain};
+pub use link::{accept, command, done, fund, load, look, message, next, open, question, view};

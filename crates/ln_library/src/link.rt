@@ -1,0 +1,151 @@
+//! The calls of a link, by bytes.
+
+use crate::connection::{read, written};
+use crate::summary::summary_of;
+use ln_bytes::Bytes;
+use ln_channel::{FitConfig, FitSpec};
+use ln_host::{Head, HostLink, HostRefusal, Told, question_about};
+use ln_keys::View;
+use ln_log::{Pair, Side};
+use ln_refusals::Refusal;
+use ln_wire::{
+    Item, decode_command, decode_config, decode_saved, decode_spec, encode_blank_item,
+    encode_event_item, encode_item, encode_question, encode_record_item, encode_summary,
+    encode_view,
+};
+use std::alloc::Global;
+
+fn point_of(bytes: &[u8]) -> Result<[u8; 33], HostRefusal> {
+    match bytes.split_first_chunk::<33>() {
+        Some((point, [])) => Ok(*point),
+        _ => Err(HostRefusal::Answer),
+    }
+}
+
+/// A new link of a funder, by the bytes of its spec and its first per commitment point.
+///
+/// Errors: 81 where the point hasn't 33 bytes, 70 where the bytes are no spec, 40 where no channel can be opened by it
+/// (`OpenSpec::fits`), 60.
+pub fn open(alloc: Global, spec: &[u8], first_point: &[u8]) -> Result<HostLink, HostRefusal> {
+    let first_point = point_of(first_point)?;
+    let spec = decode_spec(alloc, spec)?;
+    if !spec.fits() {
+        drop(spec);
+        return Err(HostRefusal::Refused(Refusal::NotReady));
+    }
+    Ok(HostLink::funder(alloc, FitSpec::new(spec), first_point))
+}
+
+/// A new link of a fundee, by the bytes of its config and its first per commitment point. Errors as those of `open`.
+pub fn accept(alloc: Global, config: &[u8], first_point: &[u8]) -> Result<HostLink, HostRefusal> {
+    let first_point = point_of(first_point)?;
+    let config = decode_config(alloc, config)?;
+    if !config.fits() {
+        drop(config);
+        return Err(HostRefusal::Refused(Refusal::NotReady));
+    }
+    Ok(HostLink::fundee(alloc, FitConfig::new(config), first_point))
+}
+
+/// The link that comes back from what its host saved. Errors: 70 and 71 as of `Link::from_record`, also where the bytes
+/// are nothing that a host saved; 60.
+pub fn load(alloc: Global, saved: &[u8]) -> Result<HostLink, Refusal> {
+    let saved = decode_saved(alloc, saved)?;
+    HostLink::load(alloc, saved)
+}
+
+/// Names the funding: `HostLink::name_funding`. Errors: 81 where the txid hasn't 32 bytes, 40.
+pub fn fund(link: &mut HostLink, txid: &[u8], output: u16) -> Result<(), HostRefusal> {
+    match txid.split_first_chunk::<32>() {
+        Some((txid, [])) => Ok(link.name_funding(*txid, output)?),
+        _ => Err(HostRefusal::Answer),
+    }
+}
+
+/// The question about a message; no bytes where there is none. Errors: the first fault of the message's bytes, 1 to 9; 60.
+pub fn question(alloc: Global, link: &HostLink, message: &[u8]) -> Result<Vec<u8>, Refusal> {
+    let message = read(alloc, message)?;
+    match &message {
+        None => Ok(Vec::new(alloc)),
+        Some(message) => match &question_about(alloc, link.machine(), message)? {
+            None => Ok(Vec::new(alloc)),
+            Some(question) => encode_question(alloc, question),
+        },
+    }
+}
+
+/// Takes a message with the answer to the question about it: `HostLink::message`. One of an odd type that isn't known does
+/// nothing.
+pub fn message(
+    alloc: Global,
+    link: &mut HostLink,
+    message: &[u8],
+    answer: &[u8],
+) -> Result<(), HostRefusal> {
+    match read(alloc, message)? {
+        None => Ok(()),
+        Some(message) => link.message(alloc, message, answer),
+    }
+}
+
+/// Does what a command says: `HostLink::command`. Errors: 70 where the bytes are no command.
+pub fn command(alloc: Global, link: &mut HostLink, command: &[u8]) -> Result<(), Refusal> {
+    let command = decode_command(alloc, command)?;
+    link.command(alloc, command)
+}
+
+/// What stands first in the line; no bytes where nothing waits. 60 where there is no memory.
+pub fn next(alloc: Global, link: &HostLink) -> Result<Vec<u8>, Refusal> {
+    match link.head() {
+        None => Ok(Vec::new(alloc)),
+        Some(Head::Record) => match &link.unsaved(alloc)? {
+            None => Ok(Vec::new(alloc)),
+            Some(record) => encode_record_item(alloc, record),
+        },
+        Some(Head::Blank(blank)) => encode_blank_item(alloc, blank),
+        Some(Head::Send(message)) => {
+            encode_item(alloc, &Item::Send(Bytes::new(written(alloc, message)?)))
+        }
+        Some(Head::Told(Told::Event(number, event))) => encode_event_item(alloc, *number, event),
+        Some(Head::Told(Told::Closed(fee))) => encode_item(alloc, &Item::Closed(*fee)),
+    }
+}
+
+/// What stands first in the line is dealt with: `HostLink::done`.
+pub fn done(alloc: Global, link: &mut HostLink, answer: &[u8]) -> Result<(), HostRefusal> {
+    link.done(alloc, answer)
+}
+
+/// Where the link stands. 60 where there is no memory.
+pub fn look(alloc: Global, link: &HostLink) -> Result<Vec<u8>, Refusal> {
+    let summary = summary_of(alloc, link.machine())?;
+    encode_summary(alloc, &summary)
+}
+
+// Which commitment is looked at.
+fn pair_of(which: u8) -> Option<Pair> {
+    match which {
+        0 => Some(Pair::Current(Side::Own)),
+        1 => Some(Pair::Current(Side::Peer)),
+        2 => Some(Pair::ToSign),
+        3 => Some(Pair::ToAccept),
+        _ => None,
+    }
+}
+
+fn view_in(alloc: Global, link: &HostLink, pair: Pair) -> Result<View, Refusal> {
+    match link.machine().agreed() {
+        None => Err(Refusal::NotReady),
+        Some(channel) => channel.dance().log().view(alloc, pair),
+    }
+}
+
+/// What a commitment is worth: 0 the own one, 1 the peer's, 2 the one that would be signed, 3 the one that the peer's next
+/// signature covers. Errors: 40 for another number, or where no funding is named; 60.
+pub fn view(alloc: Global, link: &HostLink, which: u8) -> Result<Vec<u8>, Refusal> {
+    let Some(pair) = pair_of(which) else {
+        return Err(Refusal::NotReady);
+    };
+    let view = view_in(alloc, link, pair)?;
+    encode_view(alloc, &view)
+}
