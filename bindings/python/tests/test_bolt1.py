@@ -33,7 +33,7 @@ class Bolt1Test(unittest.TestCase):
     def test_check_init(self) -> None:
         check_init(init(b"\x20\x02"), [])  # odd features alone
         check_init(init(b"\x10\x00"), [12])
-        check_init(bytes.fromhex("00100002100000021000"), [12])  # both maps name bit 12
+        check_init(bytes.fromhex("001000011000021000"), [4, 12])  # the one map names bit 4, the other bit 12
         for message, number in [(init(b"\x10\x00"), 9), (init(b"\x01"), 9), (b"\0\x10\0", 1), (pong_of(0), 21)]:
             with self.subTest(message=message), self.assertRaises(Refused) as caught:
                 check_init(message, [5])
