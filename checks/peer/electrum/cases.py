@@ -67,7 +67,9 @@ def closed_by_electrum_alone(s):
 
 def speaks_last(role):
     """Values by which Electrum's is the last closing_signed: it agrees with our first fee, or with our answer."""
-    return dict(el_test_shutdown_fee=500) if role == FUNDER else dict(min_closing_fee_satoshis=800)
+    if role == FUNDER:
+        return dict(el_test_shutdown_fee=500)
+    return dict(closing_fee_satoshis=800, min_closing_fee_satoshis=800)
 
 
 async def close(s, by_us, quiet=1.6):
@@ -389,6 +391,26 @@ async def own_adds_forgotten(role):
     s.we_pay(6_000_000)
     await s.settle()
     settled(s, 1, 0)
+    unhurt(s)
+    return s
+
+
+@case
+async def own_removals_given_again(role):
+    """A removal that no signature covered is gone after a loss, and so after a restart: the host gives it again."""
+    s = await ready(role)
+    for id_, restarts in enumerate(('neither', 'ours')):
+        s.hold()
+        s.electrum_pays(5_000_000)
+        await s.settle()
+        s.release(sign=False)
+        assert s.host.link.look().removed_htlcs == (id_,)
+        await s.lose()
+        assert s.host.link.look().removed_htlcs == ()
+        restart(s, restarts)
+        await s.meet_again()
+        await s.settle()
+        settled(s, 0, id_ + 1)
     unhurt(s)
     return s
 

@@ -40,6 +40,7 @@ class RandomRun:
             except Crash:
                 await s.crash()
             s.check_always()
+        s.host.crash_after = None
         await self.release()
         await self.quiet(checks_all=True)
         unhurt(s)
@@ -88,6 +89,7 @@ class RandomRun:
 
     async def quiet(self, checks_all=False):
         """Nothing is under way any more: both have to tell the same."""
+        self.s.host.sign()
         await self.s.settle()
         self.s.check_quiet()
         self.quiet_moments += 1
@@ -118,7 +120,7 @@ class RandomRun:
 
     async def release(self):
         try:
-            self.s.release()
+            self.s.release(sign=self.chance.random() < 0.5)
         except Crash:
             await self.s.crash()
             self.s.release()

@@ -297,14 +297,15 @@ class Session:
         self.host.hold = True
         self.worker.enable_htlc_settle = False
 
-    def release(self):
+    def release(self, sign=True):
         """Both answer the HTLCs that wait, and those that come."""
         self.host.hold = False
         self.worker.enable_htlc_settle = True
         for number in list(self.held):
             added = self.held.pop(number)
             self.host.release(number, self.removal_of(added))
-        self.host.sign()
+        if sign:
+            self.host.sign()
 
     # ---- time
 
