@@ -1,5 +1,6 @@
 -- What is asked about a message, by the stage.
-use Rattle.std.proofs.Common.{◌≡◌, Bool, true, false, not, ◌&&◌, ◌||◌, Option, Some, None, List, ℕ, cond, refl, sym, ap, ◌∙◌}
+use Rattle.std.proofs.Common.{◌≡◌, Bool, true, false, not, ◌&&◌, ◌||◌, Option, Some, None, List, ℕ, cond, refl, sym, ap}
+use Rattle.std.proofs.Common.{◌∙◌}
 use Rattle.ln_msgs.specs.declared.messages.message.Message.{Message}
 use Rattle.ln_channel.specs.declared.machine.ConnectionState.{ConnectionState}
 use Rattle.ln_channel.specs.declared.machine.Stage.{Stage}
@@ -67,4 +68,5 @@ pub of_opening : {K : Type 0} (l : State K) (m : Message) → reaches_channel l 
     → question_of l m ≡ asked_opening (opened l m) (first_view l.stage)
 of_opening l m r n =
     question_is l m _ r (by_opening l.stage l.connection m n)
-    ∙ ap (λ (x : Option (List ℕ)). asked_opening x (first_view l.stage)) (sym (opens_if l.halted _ _ (opens l.stage m) r))
+    ∙ ap (λ (x : Option (List ℕ)). asked_opening x (first_view l.stage)) (sym (opens_if l.halted _ _ (opens l.stage m)
+    r))

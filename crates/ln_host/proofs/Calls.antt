@@ -121,7 +121,8 @@ kept_happens Saves p k = record {
   sent = k.sent;
 }
 kept_happens (Sends m) p k = record {
-  waiting = one_more p.records p.waiting (record { message = p.messages; by_record = p.records }) k.waiting (omega arith);
+  waiting = one_more p.records p.waiting (record { message = p.messages; by_record = p.records }) k.waiting (omega
+      arith);
   all_saved = k.all_saved;
   sent = k.sent;
 }
@@ -206,7 +207,8 @@ ordered_happens (Sends m) p a = sends_more 0 p.sent p.waiting p.messages p.recor
 ordered_happens (Tells t) p a = a
 ordered_happens (Fills f) p a = a
 ordered_happens Takes p a =
-    ordered_takes p.line.record_waits p.line.messages p.line.told p.records p.saved p.messages p.waiting p.sent p.heard a
+    ordered_takes p.line.record_waits p.line.messages p.line.told p.records p.saved p.messages p.waiting p.sent p.heard
+    a
 ordered_happens Loses p a = none_left 0 p.sent p.waiting p.messages a
 
 ordered_run : (cs : List Call) (p : Past) → Ordered p → Ordered (run cs p)

@@ -1,6 +1,6 @@
--- What is blank in a message that goes out, and how it is filled. All of it is told by the end as the call leaves it that
--- made the message (BOLT 2).
-use Rattle.std.specs.Prelude.{ℕ, ◌+◌, ◌-◌, ◌/◌, List, [], ◌∷◌, length, Option, Some, None}
+-- What is blank in a message that goes out, and how it is filled. All of it is told by the end as the call leaves it
+-- that made the message (BOLT 2).
+use Rattle.std.specs.Prelude.{ℕ, ◌+◌, ◌-◌, ◌/◌, List, [], ◌∷◌, length, nat_lt, Option, Some, None, if◌then◌else◌}
 use Rattle.ln_keys.specs.declared.role.Role.{Role}
 use Rattle.ln_keys.specs.declared.role.Role.TheVariants.{Funder, Fundee}
 use Rattle.ln_keys.specs.declared.view.View.{View}
@@ -87,12 +87,16 @@ abbrev pub whole : {A : Type 0} → A → List ℕ → Option A
 whole x [] = Some x
 whole x (b ∷ bs) = None
 
--- a signature over the commitment, and as many over its HTLCs as there are bytes
-abbrev pub signatures_at : List ℕ → Option Filling
-signatures_at bytes = do
+-- a signature over the commitment, and as many over its HTLCs as there are bytes; at most one for each of them
+abbrev pub htlcs_at : List ℕ → List ℕ → Option Filling
+htlcs_at signature bytes = do
+  htlcs ← items_at (fixed 64) (length bytes / 64) bytes
+  whole (filling.Signatures signature htlcs.0) htlcs.1
+
+abbrev pub signatures_at : ℕ → List ℕ → Option Filling
+signatures_at most bytes = do
   signature ← bytes_at 64 bytes
-  htlcs ← items_at (fixed 64) (length signature.1 / 64) signature.1
-  whole (filling.Signatures signature.0 htlcs.0) htlcs.1
+  if nat_lt most (length signature.1 / 64) then None else htlcs_at signature.0 signature.1
 
 abbrev pub revocation_at : List ℕ → Option Filling
 revocation_at bytes = do
@@ -112,7 +116,7 @@ close_at bytes = do
 
 -- what a host gives for a blank, by its bytes; none where their number is another
 abbrev pub filling_at : Blank → List ℕ → Option Filling
-filling_at (blank.Signatures r n p v) bytes = signatures_at bytes
+filling_at (blank.Signatures r n p v) bytes = signatures_at (length v.htlcs) bytes
 filling_at (blank.Revocation secret point) bytes = revocation_at bytes
 filling_at (blank.Point n) bytes = point_at bytes
 filling_at (blank.Close t) bytes = close_at bytes

@@ -9,9 +9,12 @@ use Rattle.ln_channel.specs.declared.output.Output.{Output}
 use Rattle.ln_channel.specs.declared.output.Output.TheVariants as output
 use Rattle.ln_channel.specs.End.{End}
 use Rattle.ln_channel.specs.Record.{saved_end}
+use Rattle.ln_channel.specs.State.{State}
+use Rattle.ln_channel.specs.Step.{Done}
+use Rattle.ln_host.specs.declared.keys.HostKeys.{HostKeys}
 use Rattle.ln_host.specs.declared.line.Told.TheVariants as told
 use Rattle.ln_host.specs.Blank.{blank_of}
-use Rattle.ln_host.specs.Line.{Waiting, with_message, with_told}
+use Rattle.ln_host.specs.Line.{Waiting, with_record, with_message, with_told}
 
 -- ---- what a call hands out waits in the line
 
@@ -42,3 +45,31 @@ is_taken (Some taken) bytes = are_same taken bytes
 abbrev pub is_unsaved : Option (List ℕ) → Option (List ℕ) → Bool
 is_unsaved None taken = false
 is_unsaved (Some bytes) taken = not (is_taken taken bytes)
+
+-- that of a link, by what a store has and what the host has taken
+abbrev pub waits_of : {K : Type 0} → State K → Records → Option (List ℕ) → Bool
+waits_of l rs taken = is_unsaved (record_in (saved_end l.stage) rs) taken
+
+-- ---- what a call makes of it
+
+-- the link and its line as a call finds them or leaves them, and what of its record the host has
+pub record Seat : Type 0 where
+  pub link : State HostKeys
+  pub records : Records
+  pub taken : Option (List ℕ)
+  pub line : Waiting
+
+-- the record waits where the host hasn't taken it, and all that is handed out waits after it
+abbrev pub queued : List Output → Seat → Waiting → Waiting
+queued os s w = with_outputs s.link.stage os (with_record (waits_of s.link s.records s.taken) w)
+
+-- a call was answered: the link is this one, its outputs wait, and nothing of the host's was touched
+pub record IsQueued (os : List Output) (l : State HostKeys) (old new : Seat) : Type 0 where
+  pub link : new.link ≡ l
+  pub line : new.line ≡ queued os new old.line
+  pub taken : new.taken ≡ old.taken
+
+-- it was answered by what is said of it
+abbrev pub Answers : Result Done Refusal → (Done → State HostKeys) → Seat → Seat → Type 0
+Answers (Ok d) reaches old new = IsQueued d.outputs (reaches d) old new
+Answers (Err r) reaches old new = ⊥

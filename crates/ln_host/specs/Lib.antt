@@ -7,3 +7,4 @@ pub mod Seen
 pub mod Greeting
 pub mod Hosted
 pub mod Calls
+pub mod Seats

@@ -1,6 +1,7 @@
 -- The line in which what a link hands out waits for its host: a record before all that it covers, then messages, then
 -- what is told.
-use Rattle.std.specs.Prelude.{List, [], ◌∷◌, ◌++◌, Bool, true, false, Option, Some, None, is_some, ◌≡◌, ⊤, if◌then◌else◌}
+use Rattle.std.specs.Prelude.{List, [], ◌∷◌, ◌++◌, Bool, true, false, Option, Some, None, is_some, ◌≡◌, ⊤}
+use Rattle.std.specs.Prelude.{if◌then◌else◌}
 use Rattle.ln_host.specs.declared.filling.Filling.{Filling}
 use Rattle.ln_host.specs.declared.line.Outgoing.{Outgoing}
 use Rattle.ln_host.specs.declared.line.Told.{Told}

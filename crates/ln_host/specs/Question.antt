@@ -1,4 +1,5 @@
--- What a host is asked about a message before it is taken: the one answer of keys that decides what becomes of it (BOLT 2).
+-- What a host is asked about a message before it is taken: the one answer of keys that decides what becomes of it
+-- (BOLT 2).
 use Rattle.std.specs.Prelude.{ℕ, ◌+◌, ◌-◌, Bool, not, ◌&&◌, ◌==◌, List, Option, Some, None, if◌then◌else◌}
 use Rattle.ln_msgs.specs.declared.messages.message.Message.{Message}
 use Rattle.ln_msgs.specs.declared.messages.message.Message.TheVariants as message

@@ -1,6 +1,7 @@
 -- What a message has that the chain may need, and no record has: the peer's signatures over the own commitment, and its
 -- secrets (BOLT 5).
-use Rattle.std.specs.Prelude.{ℕ, List, [], Option, Some, None}
+use Rattle.std.specs.Prelude.{ℕ, List, [], ◌∷◌, Option, Some, None}
+use Rattle.ln_host.specs.declared.record.PeerSecret.{PeerSecret}
 use Rattle.ln_msgs.specs.declared.messages.message.Message.{Message}
 use Rattle.ln_msgs.specs.declared.messages.message.Message.TheVariants as message
 use Rattle.ln_host.specs.declared.question.Question.{Question}
@@ -27,3 +28,9 @@ seen_in (Some (question.First channel v)) m = signature_in 0 m
 seen_in (Some (question.Signatures r n v)) m = signature_in n m
 seen_in (Some (question.Secret n p)) m = secret_in n m
 seen_in q m = seen.Nothing
+
+-- the secret that it is, if it is one
+abbrev pub secret_of : Seen → List PeerSecret
+secret_of seen.Nothing = []
+secret_of (seen.Signatures s) = []
+secret_of (seen.Secret s) = s ∷ []

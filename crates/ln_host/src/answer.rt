@@ -138,8 +138,8 @@ fn answer_to(question: &Question, bytes: &[u8]) -> Result<Answer, HostRefusal>
     }
 }
 
-/// What the bytes of an answer tell about a question: a byte 0 or 1 for no and yes, 2 where a fundee's host has a record
-/// of the channel that is opened, and 32 bytes for a secret. Takes no memory.
+/// What the bytes of an answer tell about a question: a byte 0 or 1 for no and yes, 2 where a fundee's host has a
+/// record of the channel that is opened, and 32 bytes for a secret. Takes no memory.
 ///
 /// Errors: 80 where there is a question and no byte; 81 for other bytes than those, also where nothing was asked.
 pub fn answer_of(question: &Option<Question>, bytes: &[u8]) -> Result<Answer, HostRefusal>

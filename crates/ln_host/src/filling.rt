@@ -2,7 +2,7 @@
 
 ghost use Rattle.std.specs.Prelude.{◌≡◌};
 ghost use Rattle.ln_store.specs.Format.{Finds, items_at, fixed};
-ghost use Rattle.ln_host.specs.Blank.{whole, signatures_at, revocation_at, point_at, close_at, filling_at};
+ghost use Rattle.ln_host.specs.Blank.{whole, htlcs_at, signatures_at, revocation_at, point_at, close_at, filling_at};
 ghost use Rattle.ln_host.specs.Blank.{with_signatures, with_revocation, with_point, with_close, filled};
 
 use crate::blank::Blank;
@@ -54,12 +54,22 @@ fn whole(filling: Filling, rest: &[u8]) -> Result<Filling, Refusal>
     Err(Refusal::Damaged)
 }
 
-fn signatures_at(alloc: Global, bytes: &[u8]) -> Result<Filling, Refusal>
-    ensures { Finds (λ f. f) result (signatures_at bytes.now) }
+// Those over the HTLCs, which are all that is left.
+fn htlcs_at(alloc: Global, signature: [u8; 64], bytes: &[u8]) -> Result<Filling, Refusal>
+    ensures { Finds (λ f. f) result (htlcs_at signature bytes.now) }
+{
+    let (htlcs, rest) = signature_items_at(alloc, bytes.len() / 64, bytes)?;
+    whole(Filling::Signatures(signature, Signatures::new(htlcs)), rest)
+}
+
+fn signatures_at(alloc: Global, most: usize, bytes: &[u8]) -> Result<Filling, Refusal>
+    ensures { Finds (λ f. f) result (signatures_at most bytes.now) }
 {
     let (signature, rest) = array_at(bytes)?;
-    let (htlcs, rest) = signature_items_at(alloc, rest.len() / 64, rest)?;
-    whole(Filling::Signatures(signature, Signatures::new(htlcs)), rest)
+    if rest.len() / 64 > most {
+        return Err(Refusal::Damaged);
+    }
+    htlcs_at(alloc, signature, rest)
 }
 
 fn revocation_at(bytes: &[u8]) -> Result<Filling, Refusal>
@@ -85,14 +95,15 @@ fn close_at(bytes: &[u8]) -> Result<Filling, Refusal>
 }
 
 /// What a host gives for a blank, by its bytes: a signature over a commitment and those over its HTLCs that have an
-/// output (64 bytes each); a secret and a point (32 and 33); a point (33); a signature over a close (64).
+/// output, so at most one for each (64 bytes each); a secret and a point (32 and 33); a point (33); a signature over
+/// a close (64).
 ///
 /// Errors: 70 where their number is another; 60 where there is no memory for the signatures.
 pub fn filling_at(alloc: Global, blank: &Blank, bytes: &[u8]) -> Result<Filling, Refusal>
     ensures { Finds (λ f. f) result (filling_at blank.now bytes.now) }
 {
     match blank {
-        Blank::Signatures { .. } => signatures_at(alloc, bytes),
+        Blank::Signatures { view, .. } => signatures_at(alloc, view.htlcs.len(), bytes),
         Blank::Revocation { .. } => revocation_at(bytes),
         Blank::Point(_) => point_at(bytes),
         Blank::Close(_) => close_at(bytes),

@@ -26,8 +26,8 @@ fn networks(alloc: Global, chains: &[u8]) -> Result<Records, Refusal>
     Ok(Records::new(records))
 }
 
-/// An `init` with these features, the lowest bit in the last byte, and with a record `networks` of these chain hashes, 32
-/// bytes each, where there are any (BOLT 1, "The `init` Message"). 60 where there is no memory.
+/// An `init` with these features, the lowest bit in the last byte, and with a record `networks` of these chain
+/// hashes, 32 bytes each, where there are any (BOLT 1, "The `init` Message"). 60 where there is no memory.
 pub fn init_with(alloc: Global, features: &[u8], chains: &[u8]) -> Result<Init, Refusal>
     ensures init { IfOk result (λ i. i ≡ init_with features.now chains.now) }
     ensures fails_for_memory_alone { IfErr result (λ r. r ≡ refusal.Memory) }
@@ -57,8 +57,8 @@ pub fn pong_to(alloc: Global, ping: &Ping) -> Result<Option<Pong>, Refusal>
     }))
 }
 
-/// The id of the channel that a message is for: the temporary one of the first three messages of an opening, all zeros of
-/// an error or a warning for all channels; none of a message of no channel. Takes no memory.
+/// The id of the channel that a message is for: the temporary one of the first three messages of an opening, all
+/// zeros of an error or a warning for all channels; none of a message of no channel. Takes no memory.
 pub fn channel_of(message: &Message) -> Option<[u8; 32]>
     ensures { result ≡ channel_of message.now }
 {

@@ -1,15 +1,22 @@
 //! A link whose host brings keys, disk and sockets.
 
-ghost use Rattle.std.specs.Prelude.{◌≡◌, IfOk, IfErr, OnOk};
+ghost use Rattle.std.specs.Prelude.{◌≡◌, ◌++◌, IfOk, IfErr, OnOk, OnErr};
+ghost use Rattle.ln_host.specs.Seen.{secret_of};
 ghost use Rattle.ln_refusals.specs.declared.refusal.Refusal.TheVariants as refusal;
-ghost use Rattle.ln_channel.specs.State.{State, StandsFor};
+ghost use Rattle.ln_channel.specs.Asking.{with_named, naming_answer};
+ghost use Rattle.ln_channel.specs.State.{State, StandsFor, halts, drops};
+ghost use Rattle.ln_channel.specs.Step.{connected};
+ghost use Rattle.ln_link.specs.Saving.{reached};
+ghost use Rattle.ln_host.specs.Keys.{host_signer};
+ghost use Rattle.ln_host.specs.Line.{lost, IsHead};
 ghost use Rattle.ln_host.specs.declared.keys.HostKeys.{HostKeys};
 ghost use Rattle.ln_host.specs.Answer.{keys_told};
-ghost use Rattle.ln_host.specs.Hosted.{with_output, with_outputs};
+ghost use Rattle.ln_host.specs.Hosted.{with_output, with_outputs, waits_of, IsQueued, Answers};
+ghost use Rattle.ln_host.specs.Seats.{seat};
 
 use crate::answer::{Answer, HostRefusal, answer_of};
 use crate::blank::blank_of;
-use crate::filling::filling_at;
+use crate::filling::{filling_at, put};
 use crate::greeting::channel_of;
 use crate::keys::HostKeys;
 use crate::line::{Head, Line, Outgoing, Told};
@@ -34,6 +41,23 @@ pub struct HostLink {
     signatures: Option<HeldSignatures>,
     secrets: Vec<PeerSecret>,
     line: Line,
+}
+
+// The peer's secrets with the one that a message tells, made before the message is taken: none is lost for want of
+// memory.
+fn secrets_with(
+    alloc: Global,
+    secrets: &[PeerSecret],
+    seen: &Seen,
+) -> Result<Vec<PeerSecret>, Refusal>
+    ensures all { IfOk result (λ v. v.items ≡ secrets.now ++ secret_of seen.now) }
+    ensures fails_for_memory_alone { IfErr result (λ r. r ≡ refusal.Memory) }
+{
+    let mut all = Vec::from_slice(alloc, secrets)?;
+    if let Seen::Secret(secret) = seen {
+        all.push(*secret)?;
+    }
+    Ok(all)
 }
 
 // Keys of a host that has told nothing yet.
@@ -130,10 +154,10 @@ impl HostLink {
 
     /// The link that comes back from what its host saved. The events that it hasn't decided are told again.
     ///
-    /// Errors: those of `Link::from_record` (70, 71), and 60.
+    /// Errors: those of `Link::from_record` (70, 71), 70 where the record is another channel's, and 60.
     pub fn load(alloc: Global, saved: HostRecord) -> Result<HostLink, Refusal> {
         let HostRecord {
-            channel: _,
+            channel,
             signatures,
             secrets,
             record_bytes,
@@ -141,9 +165,20 @@ impl HostLink {
         drop(secrets);
         let link = Link::from_record(alloc, keys_with([0; 33]), record_bytes.as_slice())?;
         let mut host = hosted(alloc, link, [0; 33]);
-        host.signatures = signatures;
+        put(&mut host.signatures, signatures);
+        if !host.is_of(&channel) {
+            return Err(Refusal::Damaged);
+        }
         host.tell_pending(alloc)?;
         Ok(host)
+    }
+
+    // Whether it is an end of this channel.
+    fn is_of(&self, channel: &[u8; 32]) -> bool {
+        match self.machine().saved() {
+            None => false,
+            Some(end) => end.id() == *channel,
+        }
     }
 
     // The events that aren't decided.
@@ -155,17 +190,26 @@ impl HostLink {
     }
 
     /// What the link is, to be looked at. Takes no memory.
-    pub fn machine(&self) -> &ChannelMachine<HostKeys> {
+    pub fn machine(&self) -> &ChannelMachine<HostKeys>
+        ensures { result.now ≡ self.now.link }
+    {
         self.link.channel_machine()
     }
 
     /// Names the funding, until `accept_channel` is taken: `Link::name_funding`. Takes no memory.
-    pub fn name_funding(&mut self, txid: [u8; 32], output: u16) -> Result<(), Refusal> {
+    pub fn name_funding(&mut self, txid: [u8; 32], output: u16) -> Result<(), Refusal>
+        ensures answer { (l : State HostKeys) → StandsFor self.old.link l → result ≡ naming_answer l.stage }
+        ensures state { (l : State HostKeys) → StandsFor self.old.link l
+            → StandsFor self.new.link (record l { stage = with_named txid output l.stage }) }
+        ensures same_line { self.new.line ≡ self.old.line }
+    {
         self.link.name_funding(txid, output)
     }
 
     // Whether the record isn't what the host has taken.
-    fn is_unsaved(&self) -> bool {
+    fn is_unsaved(&self) -> bool
+        ensures { result ≡ waits_of self.now.link self.now.store self.now.taken }
+    {
         match self.machine().saved() {
             None => false,
             Some(channel) => match self.store.find(&channel.id()) {
@@ -179,7 +223,12 @@ impl HostLink {
     }
 
     // What a call hands out waits; the link halts where there is no memory for it.
-    fn queue(&mut self, alloc: Global, outputs: Vec<Output>) -> Result<(), Refusal> {
+    fn queue(&mut self, alloc: Global, outputs: Vec<Output>) -> Result<(), Refusal>
+        ensures queued { OnOk result (IsQueued outputs.items self.old.link (seat self.old) (seat self.new)) }
+        ensures same_store { self.new.store ≡ self.old.store }
+        ensures halts { OnErr result (self.new.link ≡ halts self.old.link) }
+        ensures fails_for_memory_alone { IfErr result (λ r. r ≡ refusal.Memory) }
+    {
         let unsaved = self.is_unsaved();
         self.line.put_record(unsaved);
         match queue_outputs(alloc, self.link.channel_machine(), &mut self.line, outputs) {
@@ -199,13 +248,19 @@ impl HostLink {
     }
 
     /// There is a connection: `Link::connect`.
-    pub fn connect(&mut self, alloc: Global) -> Result<(), Refusal> {
+    pub fn connect(&mut self, alloc: Global) -> Result<(), Refusal>
+        ensures connects { (l : State HostKeys) → StandsFor self.old.link l → OnOk result
+            (Answers (connected (host_signer l.keys) l) (λ d. reached d l) (seat self.old) (seat self.new)) }
+    {
         let outputs = self.link.connect(alloc)?;
         self.queue(alloc, outputs)
     }
 
     /// The connection is lost, and the messages that wait for it. Takes no memory.
-    pub fn disconnect(&mut self) {
+    pub fn disconnect(&mut self)
+        ensures link { (l : State HostKeys) → StandsFor self.old.link l → StandsFor self.new.link (drops l) }
+        ensures line { self.new.line ≡ lost self.old.line }
+    {
         self.link.drop_connection();
         self.line.lose();
     }
@@ -244,6 +299,9 @@ impl HostLink {
         let Some(channel) = channel else {
             return refusal;
         };
+        if self.machine().connection().is_down() {
+            return refusal;
+        }
         match self.put_reply(alloc, refusal, &channel) {
             Ok(()) => refusal,
             Err(memory) => {
@@ -275,38 +333,27 @@ impl HostLink {
         answer: Answer,
         seen: Seen,
     ) -> Result<(), Refusal> {
+        let secrets = secrets_with(alloc, self.secrets.as_slice(), &seen)?;
         self.know(alloc, answer)?;
         self.link.set_keys(keys_told(self.first_point, answer));
         match self.link.handle(alloc, &mut self.store, message) {
-            Ok(outputs) => self.answered(alloc, seen, outputs),
+            Ok(outputs) => {
+                self.keep(seen, secrets);
+                self.queue(alloc, outputs)
+            }
             Err(refusal) => {
                 drop(seen);
+                drop(secrets);
                 Err(self.refused(refusal))
             }
         }
     }
 
     // What a taken message had that the chain may need.
-    fn keep(&mut self, seen: Seen) -> Result<(), Refusal> {
-        match seen {
-            Seen::Nothing => Ok(()),
-            Seen::Signatures(signatures) => {
-                self.signatures = Some(signatures);
-                Ok(())
-            }
-            Seen::Secret(secret) => Ok(self.secrets.push(secret)?),
-        }
-    }
-
-    // A call was answered: what it saw is kept, and what it hands out waits; or the link halts.
-    fn answered(&mut self, alloc: Global, seen: Seen, outputs: Vec<Output>) -> Result<(), Refusal> {
-        match self.keep(seen) {
-            Ok(()) => self.queue(alloc, outputs),
-            Err(refusal) => {
-                drop(outputs);
-                self.link.halt();
-                Err(self.refused(refusal))
-            }
+    fn keep(&mut self, seen: Seen, secrets: Vec<PeerSecret>) {
+        put(&mut self.secrets, secrets);
+        if let Seen::Signatures(signatures) = seen {
+            put(&mut self.signatures, Some(signatures));
         }
     }
 
@@ -319,7 +366,9 @@ impl HostLink {
     }
 
     /// What stands first in the line. Takes no memory.
-    pub fn head(&self) -> Option<Head<'_>> {
+    pub fn head(&self) -> Option<Head<'_>>
+        ensures { IsHead self.now.line result }
+    {
         self.line.head()
     }
 
@@ -340,8 +389,8 @@ impl HostLink {
         }))
     }
 
-    /// What stands first in the line is dealt with: a record is saved, a blank filled by this answer, a message sent, or
-    /// what was told acted on.
+    /// What stands first in the line is dealt with: a record is saved, a blank filled by this answer, a message sent,
+    /// or what was told acted on.
     ///
     /// Errors: 81 where a blank is filled by too few or too many bytes, or anything else comes with an answer; 40 where
     /// nothing waits; 60. Nothing has changed then.

@@ -4,8 +4,8 @@ ghost use Rattle.std.specs.Prelude.{◌≡◌, ◌++◌, List};
 ghost use Rattle.ln_host.specs.Line.{Waiting, lost};
 ghost use Rattle.ln_host.specs.Calls.{Call, run, begun, told_by, AreSaved, AreRising};
 
-/// A law: a message leaves a line only once its host has saved the last record that covers it; each leaves at most once,
-/// and in the order in which they came; what is told is heard once, in order, and nothing of it is lost; a lost
+/// A law: a message leaves a line only once its host has saved the last record that covers it; each leaves at most
+/// once, and in the order in which they came; what is told is heard once, in order, and nothing of it is lost; a lost
 /// connection takes no record.
 pub fn saved_before_sent()
     ensures saved_first { (cs : List Call) → AreSaved (run cs begun).sent }

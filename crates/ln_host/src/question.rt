@@ -157,7 +157,8 @@ fn asked_saved(
     channel: &Channel,
     message: &Message,
 ) -> Result<Option<Question>, Refusal>
-    ensures asked { (e : End) → end.StandsFor channel.now e → IfOk result (λ q. q ≡ asked_saved connection message.now e) }
+    ensures asked { (e : End) → end.StandsFor channel.now e → IfOk result (λ q. q ≡ asked_saved connection message.now
+        e) }
     ensures fails_for_memory_alone { IfErr result (λ r. r ≡ refusal.Memory) }
 {
     if connection.is_connected() {
@@ -195,8 +196,8 @@ fn asked_opening(channel: Option<[u8; 32]>, view: Option<View>) -> Option<Questi
     }
 }
 
-/// What the host is asked about a message before it is taken: the one answer of its keys that decides what becomes of it.
-/// None where no answer does. Takes memory for a view or scripts; 60 where there is none.
+/// What the host is asked about a message before it is taken: the one answer of its keys that decides what becomes of
+/// it. None where no answer does. Takes memory for a view or scripts; 60 where there is none.
 pub fn question_about<K: ChannelKeys + Drop>(
     alloc: Global,
     link: &ChannelMachine<K>,

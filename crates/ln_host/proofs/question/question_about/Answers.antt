@@ -25,7 +25,8 @@ returns-in-Some-agreed-clause-asked g c = λ l s.
     let reaches = sym (c.reaches_channel.ensures l s) ∙ c.if-not-reaches_channel.false in
     let unsaved = sym (c.saved.ensures.end l s) ∙ ap option_copied c.in_default.is in
     let agreed = sym (c.agreed.ensures.end l s) ∙ ap option_copied c.in-Some-agreed.is in
-    subst (λ (q : Option Question). IfOk c.asked_signed.result (λ r. r ≡ q)) (sym (of_signed l m e reaches unsaved agreed))
+    subst (λ (q : Option Question). IfOk c.asked_signed.result (λ r. r ≡ q)) (sym (of_signed l m e reaches unsaved
+    agreed))
     (c.asked_signed.ensures.asked e refl)
 
 pub returns-in_ok-first_view-in-None-clause-asked : goal.returns-in_ok-first_view-in-None-clause-asked
