@@ -28,8 +28,8 @@ pub(crate) fn written(alloc: Global, message: &Message) -> Result<Vec<u8>, Refus
     }
 }
 
-/// An `init` with these features and these chains, as `ln_host::init_with` makes it. Errors: 8 where the chains aren't 32
-/// bytes each, 7 where they are too long, 60.
+/// An `init` with these features and these chains, as `ln_host::init_with` makes it. Errors: 8 where the chains
+/// aren't 32 bytes each, 7 where they are too long, 60.
 pub fn init(alloc: Global, features: &[u8], chains: &[u8]) -> Result<Vec<u8>, Refusal> {
     if chains.len() % 32 != 0 {
         return Err(Refusal::FieldLength);
@@ -41,8 +41,8 @@ pub fn init(alloc: Global, features: &[u8], chains: &[u8]) -> Result<Vec<u8>, Re
     written(alloc, &message)
 }
 
-/// Whether a node that knows these even feature bits may go on with the peer that sent this `init`. Errors: 9 where it asks
-/// for another even bit; 21 where the message is no `init`; the first fault of its bytes, 1 to 8; 60.
+/// Whether a node that knows these even feature bits may go on with the peer that sent this `init`. Errors: 9 where
+/// it asks for another even bit; 21 where the message is no `init`; the first fault of its bytes, 1 to 8; 60.
 pub fn check_init(alloc: Global, message: &[u8], known_even_bits: &[u16]) -> Result<(), Refusal> {
     let message = read(alloc, message)?;
     match &message {
@@ -101,8 +101,8 @@ pub fn pong(alloc: Global, message: &[u8]) -> Result<Vec<u8>, Refusal> {
     }
 }
 
-/// The id of the channel that a message is for, 32 bytes; no bytes of a message of no channel. Errors: the first fault of
-/// the message's bytes, 1 to 8; 60.
+/// The id of the channel that a message is for, 32 bytes; no bytes of a message of no channel. Errors: the first
+/// fault of the message's bytes, 1 to 8; 60.
 pub fn channel(alloc: Global, message: &[u8]) -> Result<Vec<u8>, Refusal> {
     let message = read(alloc, message)?;
     match &message {

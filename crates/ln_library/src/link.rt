@@ -62,7 +62,8 @@ pub fn fund(link: &mut HostLink, txid: &[u8], output: u16) -> Result<(), HostRef
     }
 }
 
-/// The question about a message; no bytes where there is none. Errors: the first fault of the message's bytes, 1 to 9; 60.
+/// The question about a message; no bytes where there is none. Errors: the first fault of the message's bytes, 1 to
+/// 9; 60.
 pub fn question(alloc: Global, link: &HostLink, message: &[u8]) -> Result<Vec<u8>, Refusal> {
     let message = read(alloc, message)?;
     match &message {
@@ -74,8 +75,8 @@ pub fn question(alloc: Global, link: &HostLink, message: &[u8]) -> Result<Vec<u8
     }
 }
 
-/// Takes a message with the answer to the question about it: `HostLink::message`. One of an odd type that isn't known does
-/// nothing.
+/// Takes a message with the answer to the question about it: `HostLink::message`. One of an odd type that isn't known
+/// does nothing.
 pub fn message(
     alloc: Global,
     link: &mut HostLink,
@@ -140,8 +141,8 @@ fn view_in(alloc: Global, link: &HostLink, pair: Pair) -> Result<View, Refusal> 
     }
 }
 
-/// What a commitment is worth: 0 the own one, 1 the peer's, 2 the one that would be signed, 3 the one that the peer's next
-/// signature covers. Errors: 40 for another number, or where no funding is named; 60.
+/// What a commitment is worth: 0 the own one, 1 the peer's, 2 the one that would be signed, 3 the one that the peer's
+/// next signature covers. Errors: 40 for another number, or where no funding is named; 60.
 pub fn view(alloc: Global, link: &HostLink, which: u8) -> Result<Vec<u8>, Refusal> {
     let Some(pair) = pair_of(which) else {
         return Err(Refusal::NotReady);

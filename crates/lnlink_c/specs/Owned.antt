@@ -1,4 +1,5 @@
--- What a handle owns: the block of its object, or nothing, and then its pointer is null. The right to free a block of the heap is the same at each `Global`, which has no bytes.
+-- What a handle owns: the block of its object, or nothing, and then its pointer is null. The right to free a block of
+-- the heap is the same at each `Global`, which has no bytes.
 use Rattle.std.specs.Prelude.{Option, Some, None}
 use mir.Syntax.{Ty}
 use base.Fml.{Fml, feq}

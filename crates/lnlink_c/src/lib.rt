@@ -1,6 +1,7 @@
 //! The library for C: each call is one of ln_library's, on a link that C keeps by a handle.
 //!
-//! A call answers 0, or the number of what went wrong: a refusal's (the peer's rule of 44 stands in the second byte), 80
+//! A call answers 0, or the number of what went wrong: a refusal's (the peer's rule of 44 stands in the second byte),
+//! 80
 //! `ASKS`, 81 `ANSWER`, 82 `SHORT` or 83 `HANDLE`. What C may do wrong with a pointer is answered in c/lnlink.c.
 #![tactic(auto)]
 

@@ -6,7 +6,8 @@ use mir.Syntax.{named}
 use mir.Val.{Val, vbool}
 use base.Fml.{ftrue, flft}
 use contract.Running.{tables}
-use types.Kit.{‵, ◌⊛◌, given, ◌$◌, ◌∵◌, !, qed, done, move, keep, use1, learn, split, join, fsplit, fsplit3, fjoin, feq_i, rewrite, suffices, frame, group}
+use types.Kit.{‵, ◌⊛◌, given, ◌$◌, ◌∵◌, !, qed, done, move, keep, use1, learn, split, join, fsplit, fsplit3, fjoin}
+use types.Kit.{feq_i, rewrite, suffices, frame, group}
 use types.Run.{enter, of_opd, load, stop, fld, bin, un, lit, returns}
 use types.ByLocal.{alloc_all, pass_all, free_all, look_at, get, through, sets, is}
 use types.Part.{whole, sub, look_in}
@@ -36,7 +37,8 @@ is_there_spec 𝓤 𝓛 𝓜 𝓡 wired =
     proved 𝓛 f.ended stayed c 𝓜 𝓡 (Goes-ref 𝓛 1 0 tt (plain (λ _. R)), tt)
     f.Key.name code.function (code.unfolded 𝓤 𝓛.H 𝓜 𝓡 wired)
     (λ κs. (mut_vals, tt)) (λ κs. (mut_Tells (named 0) κs.0 R, tt)) (λ κs qs bounds a _ are.
-    let b = a.0.ref_ptr.0 in let o = a.0.ref_ptr.1 in let h = a.0.now in let vs = mut_vals a.0 in let r = is_some h.value in
+    let b = a.0.ref_ptr.0 in let o = a.0.ref_ptr.1 in let h = a.0.now in let vs = mut_vals a.0 in let r = is_some
+    h.value in
     let y : W.Ghost = ((κs, qs, bounds, a, (vs, tt)), tt) in
     qed 𝓛 (((‵ (flft κs.0 qs.0) ⊛ ‵ ftrue) ⊛ ‵ ((MutRef (named 0) κs.0 R).own_val a.0 vs) ⊛ ‵ ftrue) ∷ ‵ ftrue ∷ []) ∵
     split ! $ split ! $ move ! (2 ∷ []) $ split ! $ keep ! (0 ∷ 2 ∷ []) $
@@ -48,12 +50,14 @@ is_there_spec 𝓤 𝓛 𝓜 𝓡 wired =
     let word = lowers.val_is h us is_val in
     let Cell = λ (ws : List Val). ‵ (cell_at full_share R.mir ws b o) in
     rewrite ! 2 Cell word refl $
-    sets ! (of_opd ! (load ! (through ! refl (fld ! refl (stop !))) (look_in ! 2 (sub ! 0 refl (whole !))))) refl (typed h.at) $
+    sets ! (of_opd ! (load ! (through ! refl (fld ! refl (stop !))) (look_in ! 2 (sub ! 0 refl (whole !))))) refl
+    (typed h.at) $
     sets ! (is ! (bin ! (get ! refl) (lit ! tt) (tests_null h.at told.0)) told.1) refl (tt, tt) $
     sets ! (is ! (un ! (get ! refl) tt) (ap vbool (twice r))) refl (tt, tt) $
     rewrite ! 2 Cell (sym word) refl $
     move ! (1 ∷ []) $ fjoin ! $ move ! (1 ∷ []) $ closes ! tt R h us b o $
     returns ! (look_at ! 0 refl) $ free_all ! refl $ move ! (3 ∷ []) $
     suffices ! _ (ends_at 𝓛 f.ended stayed c y (vbool r) r (h, tt) (tt, tt)) $ says ! (refl, refl) $
-    group ! 3 $ nothing ! $ move ! (1 ∷ 0 ∷ []) $ join ! $ nothing ! $ move ! (2 ∷ 0 ∷ []) $ join ! $ frame ! $ frame ! $
+    group ! 3 $ nothing ! $ move ! (1 ∷ 0 ∷ []) $ join ! $ nothing ! $ move ! (2 ∷ 0 ∷ []) $ join ! $ frame ! $ frame !
+    $
     feq_i ! (List Val) (vbool r ∷ []) (vbool r ∷ []) refl $ done !)))))

@@ -34,11 +34,27 @@ use Rattle.lnlink_c.proofs.held.Held.unwrap.Code as code
 pub unwrap_spec : {M : Type 1} → statement M
 unwrap_spec 𝓤 𝓛 𝓜 𝓡 wired =
     let H = 𝓛.H in let 𝓣 = tables 𝓤 H 𝓜 𝓡 𝓡.env in let c = clauses 𝓛 𝓜.mem 𝓡.returns in let fn = code.function in
-    let hs : Stays ended.signature.params ended.kept = (stay_dropped (plain (λ _. R)) ended.kept.0, (stay_dropped (plain (λ _. G)) ended.kept.1.0, tt)) in
-    proved_at 𝓛 ended hs c 𝓜 𝓡 (Goes-blank 𝓛 0 (plain (λ _. R)) ended.kept.0 (λ κs x f. tt), (Goes-blank 𝓛 0 (plain (λ _. G)) ended.kept.1.0 (λ κs x f. tt), tt)) #self fn (code.unfolded 𝓤 H 𝓜 𝓡 wired) (λ z are.
+    let hs : Stays ended.signature.params ended.kept = (
+      stay_dropped (plain (λ _. R)) ended.kept.0,
+      (
+        stay_dropped
+            (plain (λ _. G)) ended.kept.1.0,
+        tt,
+      ),
+    ) in
+    proved_at 𝓛 ended hs c 𝓜 𝓡 (
+      Goes-blank 𝓛 0 (plain (λ _. R)) ended.kept.0 (λ κs x f. tt),
+      (
+        Goes-blank 𝓛 0 (plain (λ
+            _. G)) ended.kept.1.0 (λ κs x f. tt),
+        tt,
+      ),
+    ) #self fn (code.unfolded 𝓤 H 𝓜 𝓡 wired) (λ z are.
     let d = z.0.3.0 in let a = z.0.3.1.0 in let Post : Val → SProp 𝓤 = (walk_of 𝓛 ended hs c).post z in
-    qed 𝓛 ((raw (alive 𝓛 ended.signature z.0.0 z.0.1) ⊛ ‵ (owns (types_at ended.signature.params z.0.0) z.0.3 z.0.4)) ∷ raw (fact 𝓤 (IsSome d.value)) ∷ []) ∵ move ! (1 ∷ []) $
-    heard ! (IsSome d.value) (λ full. let x = (some_of d.value full).0 in let ex = (some_of d.value full).1 in split ! $ move ! (1 ∷ []) $ fsplit ! $ move ! (1 ∷ []) $ fsplit ! $
+    qed 𝓛 ((raw (alive 𝓛 ended.signature z.0.0 z.0.1) ⊛ ‵ (owns (types_at ended.signature.params z.0.0) z.0.3 z.0.4)) ∷
+    raw (fact 𝓤 (IsSome d.value)) ∷ []) ∵ move ! (1 ∷ []) $
+    heard ! (IsSome d.value) (λ full. let x = (some_of d.value full).0 in let ex = (some_of d.value full).1 in split !
+    $ move ! (1 ∷ []) $ fsplit ! $ move ! (1 ∷ []) $ fsplit ! $
     -- [the allocator; nothing; the handle; what is alive]
     handle_tells (al T G LG g) ! a z.0.4.1.0 (λ hv eh fits. move ! (2 ∷ []) $
     held_out ! d z.0.4.0 x ex (λ b o ws.
@@ -47,9 +63,16 @@ unwrap_spec 𝓤 𝓛 𝓜 𝓡 wired =
     alloc_all ! (λ l. pass_all ! refl ((tt, (tt, tt)), (fits, tt)) $
     sets ! (of_opd ! (get_in ! (fld ! refl (stop !)) (sub ! 0 refl (whole !)))) refl (tt, tt) $
     sets ! (of_opd ! (get ! refl)) refl (tt, tt) $
-    sets ! (agg ! (and_then ! (get ! refl) (and_then ! (get ! refl) (no_more !)))) refl (loose_good T G LG g b o hv fits) $
+    sets ! (agg ! (and_then ! (get ! refl) (and_then ! (get ! refl) (no_more !)))) refl (loose_good T G LG g b o hv
+    fits) $
     returns ! (look_at ! 0 refl) $ free_all ! refl $
     loose_in T G LG g ! b o hv a x $
-    use0 𝓛 (raw (fact 𝓤 (d.value ≡ Some x))) (fact_i 𝓤 (d.value ≡ Some x) (emp 𝓤) ex) $ nothing ! $ nothing ! $ fjoin ! $ nothing ! $ fjoin ! $
+    use0 𝓛 (raw (fact 𝓤 (d.value ≡ Some x))) (fact_i 𝓤 (d.value ≡ Some x) (emp 𝓤) ex) $ nothing ! $ nothing ! $ fjoin !
+    $ nothing ! $ fjoin ! $
     -- [what is left; the fact; the box; nothing; alive]
-    keep ! (4 ∷ 0 ∷ 2 ∷ 1 ∷ []) $ by ! (leaves 𝓛 ended hs c z (both (vptr b o) hv) (record { at = block_ptr b o; alloc = a; value = x }) (tt, (tt, tt)) (tt, (tt, tt))))))))
+    keep ! (4 ∷ 0 ∷ 2 ∷ 1 ∷ []) $ by ! (leaves 𝓛 ended hs c z (both (vptr b o) hv) (record {
+      at = block_ptr b o;
+      alloc
+          = a;
+      value = x;
+    }) (tt, (tt, tt)) (tt, (tt, tt))))))))
