@@ -16,7 +16,9 @@
  *
  * Saved before said. What calls make is handed out in one line: lnl_next shows its head, lnl_done takes it off. A
  * record, where there is one, stands before all else, and the newest stands for all that weren't taken off. It is saved
- * and synced before lnl_done: nothing that it covers can be sent before.
+ * and synced before lnl_done: nothing that it covers can be sent before. Between the lnl_next that shows a record and
+ * its lnl_done there is no other call: a message or a command that comes in waits, or lnl_done would stand for a newer
+ * record, which isn't saved.
  *
  * What a host keeps. With each record it saves, in the same transaction,
  *   - the whole item after its kind: lnl_load takes just these bytes;

@@ -124,7 +124,8 @@ impl Link {
         read(Item::from_bytes(&bytes)).map(Some)
     }
 
-    /// Takes the head of the line off, or fills it where it is a blank.
+    /// Takes the head of the line off, or fills it where it is a blank. A record is saved first. Between the `next` that
+    /// shows it and this there is no other call: it would stand for a newer record.
     ///
     /// # Errors
     ///
