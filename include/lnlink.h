@@ -16,9 +16,9 @@
  *
  * Saved before said. What calls make is handed out in one line: lnl_next shows its head, lnl_done takes it off. A
  * record, where there is one, stands before all else, and the newest stands for all that weren't taken off. It is saved
- * and synced before lnl_done: nothing that it covers can be sent before. Between the lnl_next that shows a record and
- * its lnl_done there is no other call: a message or a command that comes in waits, or lnl_done would stand for a newer
- * record, which isn't saved.
+ * and synced before lnl_done: nothing that it covers can be sent before. Between an lnl_next and its lnl_done there is no
+ * other call: a message or a command that comes in waits. For a record lnl_done is 40 after one, and lnl_next shows the
+ * newer record.
  *
  * What a host keeps. With each record it saves, in the same transaction,
  *   - the whole item after its kind: lnl_load takes just these bytes;
@@ -139,7 +139,7 @@ int32_t lnl_command(lnl_link *link, const uint8_t *command, size_t len);
 int32_t lnl_next(lnl_link *link, uint8_t *out, size_t room, size_t *n);
 
 /* Takes the head of the line off: n = 0 but for a blank, which it fills; the message then stands there as Send.
- * 40 where the line is empty. */
+ * 40 where the line is empty, or begins with a record that lnl_next didn't show since the last call. */
 int32_t lnl_done(lnl_link *link, const uint8_t *answer, size_t n);
 
 /* A summary: connection u8 (0 down, 1 awaits channel_reestablish, 2 connected), halted u8, optional channel 32,

@@ -80,10 +80,8 @@ class Link:
         return Item.from_bytes(data) if data else None
 
     def done(self, answer: bytes = b"") -> None:
-        """Takes the head of the line off, or fills it where it is a blank. 40: the line is empty.
-
-        A record is saved first. Between the `next` that shows it and this there is no other call: it would stand for a
-        newer record.
+        """Takes the head of the line off, or fills it where it is a blank. 40: the line is empty, or the record that
+        stands first isn't the one that `next` showed, as another call came between.
         """
         self._obey(library.lnl_done, answer, len(answer))
 

@@ -106,6 +106,24 @@ class RefusalTest(unittest.TestCase):
             self.refused(81, wire.b.link.link.message, wire.b.inbox[0], answer)
         wire.settle()
 
+    def test_40_a_record_that_was_not_shown(self) -> None:
+        wire = self.wire.opened()
+        wire.command(wire.a, add())
+        link = wire.a.link.link
+        link.command(Sign())
+        self.refused(40, link.done)
+        older = link.next()
+        assert isinstance(older, Record)
+        self.refused(41, link.command, Sign())
+        self.refused(40, link.done)
+        newer = link.next()
+        assert isinstance(newer, Record)
+        wire.a.store.save(newer)
+        link.done()
+        self.assertIsInstance(link.next(), BlankItem)
+        wire.post(wire.a, wire.a.link.flush())
+        wire.settle()
+
     def test_82_a_buffer_that_is_too_short(self) -> None:
         wire = self.wire.opened()
         link = wire.a.link.link

@@ -124,12 +124,12 @@ impl Link {
         read(Item::from_bytes(&bytes)).map(Some)
     }
 
-    /// Takes the head of the line off, or fills it where it is a blank. A record is saved first. Between the `next` that
-    /// shows it and this there is no other call: it would stand for a newer record.
+    /// Takes the head of the line off, or fills it where it is a blank.
     ///
     /// # Errors
     ///
-    /// `NotReady`: the line is empty; `Answer`: a filling of another length, or for what is no blank.
+    /// `NotReady`: the line is empty, or the record that stands first isn't the one that `next` showed, as another call
+    /// came between; `Answer`: a filling of another length, or for what is no blank.
     pub fn done(&mut self, answer: &[u8]) -> Result<(), Refused> {
         self.handle.done(answer)
     }

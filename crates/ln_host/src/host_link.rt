@@ -1,6 +1,6 @@
 //! A link whose host brings keys, disk and sockets.
 
-ghost use Rattle.std.specs.Prelude.{◌≡◌, ◌++◌, IfOk, IfErr, OnOk, OnErr};
+ghost use Rattle.std.specs.Prelude.{◌≡◌, ◌++◌, true, false, IfOk, IfErr, OnOk, OnErr};
 ghost use Rattle.ln_host.specs.Seen.{secret_of};
 ghost use Rattle.ln_refusals.specs.declared.refusal.Refusal.TheVariants as refusal;
 ghost use Rattle.ln_channel.specs.Asking.{with_named, naming_answer};
@@ -41,6 +41,7 @@ pub struct HostLink {
     signatures: Option<HeldSignatures>,
     secrets: Vec<PeerSecret>,
     line: Line,
+    is_shown: bool,
 }
 
 // The peer's secrets with the one that a message tells, made before the message is taken: none is lost for want of
@@ -90,6 +91,7 @@ fn hosted(alloc: Global, link: Link<HostKeys>, first_point: [u8; 33]) -> HostLin
         signatures: None,
         secrets: Vec::new(alloc),
         line: Line::new(alloc),
+        is_shown: false,
     }
 }
 
@@ -222,15 +224,17 @@ impl HostLink {
         }
     }
 
-    // What a call hands out waits; the link halts where there is no memory for it.
+    // What a call hands out waits; the link halts where there is no memory for it. A record has to be shown anew.
     fn queue(&mut self, alloc: Global, outputs: Vec<Output>) -> Result<(), Refusal>
         ensures queued { OnOk result (IsQueued outputs.items self.old.link (seat self.old) (seat self.new)) }
         ensures same_store { self.new.store ≡ self.old.store }
+        ensures shown_anew { self.new.is_shown ≡ false }
         ensures halts { OnErr result (self.new.link ≡ halts self.old.link) }
         ensures fails_for_memory_alone { IfErr result (λ r. r ≡ refusal.Memory) }
     {
         let unsaved = self.is_unsaved();
         self.line.put_record(unsaved);
+        self.is_shown = false;
         match queue_outputs(alloc, self.link.channel_machine(), &mut self.line, outputs) {
             Ok(()) => Ok(()),
             Err(refusal) => {
@@ -240,10 +244,13 @@ impl HostLink {
         }
     }
 
-    // A call was refused; its channel may have failed by it.
-    fn refused(&mut self, refusal: Refusal) -> Refusal {
+    // A call was refused; its channel may have failed by it. A record has to be shown anew.
+    fn refused(&mut self, refusal: Refusal) -> Refusal
+        ensures shown_anew { self.new.is_shown ≡ false }
+    {
         let unsaved = self.is_unsaved();
         self.line.put_record(unsaved);
+        self.is_shown = false;
         refusal
     }
 
@@ -372,8 +379,19 @@ impl HostLink {
         self.line.head()
     }
 
-    /// What the host saves, whole, where a record stands first: 60 where there is no memory.
-    pub fn unsaved(&self, alloc: Global) -> Result<Option<HostRecord>, Refusal> {
+    /// What the host saves, whole, where a record stands first; `done` stands for this one alone. 60 where there is no
+    /// memory.
+    pub fn unsaved(&mut self, alloc: Global) -> Result<Option<HostRecord>, Refusal>
+        ensures same_line { self.new.line ≡ self.old.line }
+        ensures shown { OnOk result (self.new.is_shown ≡ true) }
+        ensures not_shown { OnErr result (self.new.is_shown ≡ self.old.is_shown) }
+    {
+        let record = self.record(alloc)?;
+        self.is_shown = true;
+        Ok(record)
+    }
+
+    fn record(&self, alloc: Global) -> Result<Option<HostRecord>, Refusal> {
         let Some(channel) = self.machine().saved() else {
             return Ok(None);
         };
@@ -393,7 +411,7 @@ impl HostLink {
     /// or what was told acted on.
     ///
     /// Errors: 81 where a blank is filled by too few or too many bytes, or anything else comes with an answer; 40 where
-    /// nothing waits; 60. Nothing has changed then.
+    /// nothing waits, or a record that wasn't shown since the last call; 60. Nothing has changed then.
     pub fn done(&mut self, alloc: Global, answer: &[u8]) -> Result<(), HostRefusal> {
         match self.line.head() {
             None => Err(HostRefusal::Refused(Refusal::NotReady)),
@@ -407,6 +425,7 @@ impl HostLink {
                 Ok(())
             }
             Some(_) if !answer.is_empty() => Err(HostRefusal::Answer),
+            Some(Head::Record) if !self.is_shown => Err(HostRefusal::Refused(Refusal::NotReady)),
             Some(Head::Record) => Ok(self.record_saved(alloc)?),
             Some(_) => {
                 self.line.take_head();

@@ -96,7 +96,7 @@ pub fn command(alloc: Global, link: &mut HostLink, command: &[u8]) -> Result<(),
 }
 
 /// What stands first in the line; no bytes where nothing waits. 60 where there is no memory.
-pub fn next(alloc: Global, link: &HostLink) -> Result<Vec<u8>, Refusal> {
+pub fn next(alloc: Global, link: &mut HostLink) -> Result<Vec<u8>, Refusal> {
     match link.head() {
         None => Ok(Vec::new(alloc)),
         Some(Head::Record) => match &link.unsaved(alloc)? {
