@@ -14,6 +14,7 @@ use Rattle.ln_keys.specs.Signer.{Signer}
 use Rattle.ln_log.specs.declared.update.Update.{Update}
 use Rattle.ln_log.specs.declared.update.Update.TheVariants as update
 use Rattle.ln_log.specs.Updates.{next_id}
+use Rattle.ln_log.specs.Limits.{HasNextId}
 use Rattle.ln_dance.specs.Messages.{add_of, fulfil_of, fail_of, malformed_of, fee_of, update_message}
 use Rattle.ln_dance.specs.Dance.{learn_fault, with_next_point, signed_message}
 use Rattle.ln_dance.specs.Resume.{resume_fault}
@@ -42,43 +43,49 @@ abbrev pub IfTurn : (End → Type 0) → Result Turn Refusal → Type 0
 IfTurn P (Ok t) = P t.end
 IfTurn P (Err r) = Unit {0}
 
--- an end with the same updates and the same ledger
+-- an end of the same channel with the same updates and the same ledger
 pub record Same (f g : End) : Type 0 where
   pub log : g.dance.log ≡ f.dance.log
   pub ledger : g.ledger ≡ f.ledger
+  pub channel : g.dance.channel ≡ f.dance.channel
 
--- a shift that is plain where this holds
+-- a shift of one channel, which is plain where this holds
 abbrev pub PlainIf : Type 0 → End → End → Type 0
-PlainIf P e f = (x : Shift e f) × (P → IsPlain x)
+PlainIf P e f = (x : Shift e f) × (P → IsPlain x) × (f.dance.channel ≡ e.dance.channel)
 
 abbrev pub Plain : End → End → Type 0
 Plain e f = (x : Shift e f) × IsPlain x
 
-if_turn : (P Q : End → Type 0) → ((f : End) → P f → Q f) → (row : Result Turn Refusal) → IfTurn P row → IfTurn Q row
+pub if_turn : (P Q : End → Type 0) → ((f : End) → P f → Q f) → (row : Result Turn Refusal) → IfTurn P row → IfTurn Q row
 if_turn P Q to (Ok t) h = to t.end h
 if_turn P Q to (Err r) h = tt
 
-shift_as : (P : Type 0) (e f g : End) → Same f g → (x : Shift e f) → (P → IsPlain x) → PlainIf P e g
-shift_as P e f g s (Stays l r) n = (Stays (s.log ∙ l) (s.ledger ∙ r), n)
-shift_as P e f g s (Takes u l r) n = (Takes u (s.log ∙ l) (s.ledger ∙ r), n)
-shift_as P e f g s (Proposes u may l r) n = (Proposes u may (s.log ∙ l) (s.ledger ∙ r), n)
-shift_as P e f g s (Signs l r) n = (Signs (s.log ∙ l) (s.ledger ∙ r), n)
-shift_as P e f g s (Accepts l r) n = (Accepts (s.log ∙ l) (s.ledger ∙ r), n)
-shift_as P e f g s (Learns l r) n = (Learns (s.log ∙ l) (s.ledger ∙ r), n)
-shift_as P e f g s (Closes l r) n = (Closes (s.log ∙ l) (s.ledger ∙ r), n)
-shift_as P e f g s (Notes c l r) n = (Notes c (s.log ∙ l) (r ∙ ap Ok (sym s.ledger)), n)
+shift_by : (P : Type 0) (e f g : End) → Same f g → (x : Shift e f) → (P → IsPlain x)
+    → g.dance.channel ≡ e.dance.channel → PlainIf P e g
+shift_by P e f g s (Stays l r) n h = (Stays (s.log ∙ l) (s.ledger ∙ r), n, h)
+shift_by P e f g s (Takes u may l r) n h = (Takes u may (s.log ∙ l) (s.ledger ∙ r), n, h)
+shift_by P e f g s (Proposes u may next l r) n h = (Proposes u may next (s.log ∙ l) (s.ledger ∙ r), n, h)
+shift_by P e f g s (Signs l r) n h = (Signs (s.log ∙ l) (s.ledger ∙ r), n, h)
+shift_by P e f g s (Accepts l r) n h = (Accepts (s.log ∙ l) (s.ledger ∙ r), n, h)
+shift_by P e f g s (Learns l r) n h = (Learns (s.log ∙ l) (s.ledger ∙ r), n, h)
+shift_by P e f g s (Closes l r) n h = (Closes (s.log ∙ l) (s.ledger ∙ r), n, h)
+shift_by P e f g s (Notes c l r) n h = (Notes c (s.log ∙ l) (r ∙ ap Ok (sym s.ledger)), n, h)
+
+shift_as : (P : Type 0) (e f g : End) → Same f g → PlainIf P e f → PlainIf P e g
+shift_as P e f g s k = shift_by P e f g s k.0 k.1 (s.channel ∙ k.2)
 
 same_if : (b : Bool) (f g : End) → Same f g → Same f (cond b g f)
 same_if true f g s = s
-same_if false f g s = record { log = refl; ledger = refl }
+same_if false f g s = record { log = refl; ledger = refl; channel = refl }
 
 pub settled_same : (e : End) → Same e (settled e)
 settled_same e =
     let n = answers_shutdown e in
     let a = same_if (owes_shutdown e) e (record e { closing = after_shut e.closing })
-    (record { log = refl; ledger = refl }) in
-    let b = same_if (has_begun n) n (record n { closing = started n.closing }) (record { log = refl; ledger = refl }) in
-    record { log = b.log ∙ a.log; ledger = b.ledger ∙ a.ledger }
+    (record { log = refl; ledger = refl; channel = refl }) in
+    let b = same_if (has_begun n) n (record n { closing = started n.closing })
+    (record { log = refl; ledger = refl; channel = refl }) in
+    record { log = b.log ∙ a.log; ledger = b.ledger ∙ a.ledger; channel = b.channel ∙ a.channel }
 
 unless_so : (P : End → Type 0) (o : Option Refusal) (t : Turn) → (o ≡ None → P t.end) → IfTurn P (unless o t)
 unless_so P None t h = h refl
@@ -86,28 +93,28 @@ unless_so P (Some r) t h = tt
 
 completed_so : (P : Type 0) (keys : Signer) (e : End) (row : Result Turn Refusal) → IfTurn (PlainIf P e) row
     → IfTurn (PlainIf P e) (completed_row keys row)
-completed_so P keys e (Ok t) h = shift_as P e t.end (settled t.end) (settled_same t.end) h.0 h.1
+completed_so P keys e (Ok t) h = shift_as P e t.end (settled t.end) (settled_same t.end) h
 completed_so P keys e (Err r) h = tt
 
 -- ---- messages
 
-abbrev Plainly : End → End → Type 0
+abbrev pub Plainly : End → End → Type 0
 Plainly e f = PlainIf (Unit {0}) e f
 
 shutdown_by : (b : Bool) (e : End) → IfTurn (Plainly e) (cond b (Ok (quiet e)) (Err refusal.OutOfPlace))
-shutdown_by true e = (Stays refl refl, λ p. p)
+shutdown_by true e = (Stays refl refl, λ p. p, refl)
 shutdown_by false e = tt
 
 shutdown_so : (o : Option (List ℕ)) (m : Shutdown) (e : End) → IfTurn (Plainly e) (shutdown_at o m e)
-shutdown_so None m e = (Stays refl refl, λ p. p)
+shutdown_so None m e = (Stays refl refl, λ p. p, refl)
 shutdown_so (Some script) m e = shutdown_by (are_same script m.script) e
 
 answering_so : (keys : Signer) (a : FeeAnswer) (e : End) (m : ClosingSigned)
     → Plainly e (answering keys a (answered_end m a e)).end
-answering_so keys answer.Nothing e m = (Stays refl refl, λ p. p)
-answering_so keys (answer.Close fee) e m = (Closes refl refl, λ p. p)
-answering_so keys (answer.EchoAndClose fee) e m = (Closes refl refl, λ p. p)
-answering_so keys (answer.Propose fee) e m = (Stays refl refl, λ p. p)
+answering_so keys answer.Nothing e m = (Stays refl refl, λ p. p, refl)
+answering_so keys (answer.Close fee) e m = (Closes refl refl, λ p. p, refl)
+answering_so keys (answer.EchoAndClose fee) e m = (Closes refl refl, λ p. p, refl)
+answering_so keys (answer.Propose fee) e m = (Stays refl refl, λ p. p, refl)
 
 answered_so : (keys : Signer) (m : ClosingSigned) (e : End) (res : Result FeeAnswer Refusal)
     → IfTurn (Plainly e) (answered keys m e res)
@@ -122,8 +129,8 @@ fee_by keys true false m e res = tt
 fee_by keys false right m e res = tt
 
 ready_by : (b : Bool) (e f : End) → Same e f → Plainly e (cond b e f)
-ready_by true e f s = (Stays refl refl, λ p. p)
-ready_by false e f s = (Stays s.log s.ledger, λ p. p)
+ready_by true e f s = (Stays refl refl, λ p. p, refl)
+ready_by false e f s = (Stays s.log s.ledger, λ p. p, s.channel)
 
 row_so : (keys : Signer) (m : Message) (e : End) → IfTurn (Plainly e) (message_row keys m e)
 row_so keys (message.Warning m) e = tt
@@ -143,42 +150,42 @@ row_so keys (message.ChannelReady m) e =
         ready_received = true;
       };
       dance = with_next_point m.second_point e.dance;
-    }) (record { log = refl; ledger = refl })
+    }) (record { log = refl; ledger = refl; channel = refl })
 row_so keys (message.Shutdown m) e = shutdown_so e.terms.peer_script m e
 row_so keys (message.ClosingSigned m) e =
     fee_by keys (has_begun e) (keys.accepts_close m.fee_satoshis m.signature) m e
     (answer_to e.closing m.fee_satoshis (range_in m))
 row_so keys (message.UpdateAddHtlc m) e =
     unless_so (Plainly e) (update_fault e (update.Add (add_of m))) (quiet (takes (update.Add (add_of m)) e))
-    (λ o. (Takes (update.Add (add_of m)) refl refl, λ p. p))
+    (λ o. (Takes (update.Add (add_of m)) o refl refl, λ p. p, refl))
 row_so keys (message.UpdateFulfillHtlc m) e =
     unless_so (Plainly e) (update_fault e (update.Fulfil (fulfil_of m))) (quiet (takes (update.Fulfil (fulfil_of m)) e))
-    (λ o. (Takes (update.Fulfil (fulfil_of m)) refl refl, λ p. p))
+    (λ o. (Takes (update.Fulfil (fulfil_of m)) o refl refl, λ p. p, refl))
 row_so keys (message.UpdateFailHtlc m) e =
     unless_so (Plainly e) (update_fault e (update.Fail (fail_of m))) (quiet (takes (update.Fail (fail_of m)) e))
-    (λ o. (Takes (update.Fail (fail_of m)) refl refl, λ p. p))
+    (λ o. (Takes (update.Fail (fail_of m)) o refl refl, λ p. p, refl))
 row_so keys (message.UpdateFailMalformedHtlc m) e =
     unless_so (Plainly e) (update_fault e (update.Malformed (malformed_of m)))
     (quiet (takes (update.Malformed (malformed_of m)) e))
-    (λ o. (Takes (update.Malformed (malformed_of m)) refl refl, λ p. p))
+    (λ o. (Takes (update.Malformed (malformed_of m)) o refl refl, λ p. p, refl))
 row_so keys (message.UpdateFee m) e =
     unless_so (Plainly e) (update_fault e (update.Fee (fee_of m))) (quiet (takes (update.Fee (fee_of m)) e))
-    (λ o. (Takes (update.Fee (fee_of m)) refl refl, λ p. p))
+    (λ o. (Takes (update.Fee (fee_of m)) o refl refl, λ p. p, refl))
 row_so keys (message.CommitmentSigned m) e =
     unless_so (Plainly e) (signature_fault keys m e) (accepting keys e.dance.log.current.own e (accepts e))
-    (λ o. (Accepts refl refl, λ p. p))
+    (λ o. (Accepts refl refl, λ p. p, refl))
 row_so keys (message.RevokeAndAck m) e =
     unless_so (Plainly e) (learn_fault keys m e.dance) (learning e.dance.log.acknowledged.peer (revokes m e))
-    (λ o. (Learns refl refl, λ p. p))
+    (λ o. (Learns refl refl, λ p. p, refl))
 row_so keys (message.ChannelReestablish m) e = tt
 
-taken_so : (keys : Signer) (m : Message) (e : End) → IfTurn (Plainly e) (taken keys m e)
+pub taken_so : (keys : Signer) (m : Message) (e : End) → IfTurn (Plainly e) (taken keys m e)
 taken_so keys m e = completed_so (Unit {0}) keys e (message_row keys m e) (row_so keys m e)
 
-resumed_so : (keys : Signer) (m : ChannelReestablish) (e : End) → IfTurn (Plainly e) (resume_row keys m e)
+pub resumed_so : (keys : Signer) (m : ChannelReestablish) (e : End) → IfTurn (Plainly e) (resume_row keys m e)
 resumed_so keys m e =
     unless_so (Plainly e) (resume_fault keys m e.dance) (completed keys (resumed keys m e))
-    (λ o. shift_as (Unit {0}) e e (settled e) (settled_same e) (Stays refl refl) (λ p. p))
+    (λ o. shift_as (Unit {0}) e e (settled e) (settled_same e) (Stays refl refl, λ p. p, refl))
 
 pub taken_shifts : (keys : Signer) (m : Message) (e : End) → IfTurn (Shift e) (taken keys m e)
 taken_shifts keys m e = if_turn (Plainly e) (Shift e) (λ f x. x.0) (taken keys m e) (taken_so keys m e)
@@ -209,15 +216,16 @@ IsPlainCommand (command.Decide event mark) = Unit {0}
 IsPlainCommand (command.Forget i) = Unit {0}
 IsPlainCommand (command.Resume event mark) = Unit {0}
 
-proposed_so : (P : Type 0) (u : Update) (e : End) → (P → IsPlainUpdate u) → IfTurn (PlainIf P e) (propose_row u e)
-proposed_so P u e plain =
+proposed_so : (P : Type 0) (u : Update) (e : End) → HasNextId e.dance.log.own u → (P → IsPlainUpdate u)
+    → IfTurn (PlainIf P e) (propose_row u e)
+proposed_so P u e next plain =
     unless_so (PlainIf P e) (propose_fault e u) (sending (update_message e.dance.channel u) (proposes u e))
-    (λ o. (Proposes u o refl refl, plain))
+    (λ o. (Proposes u o next refl refl, plain, refl))
 
-command_so : (keys : Signer) (c : Command) (e : End) → IfTurn (PlainIf (IsPlainCommand c) e) (command_row keys c e)
+pub command_so : (keys : Signer) (c : Command) (e : End) → IfTurn (PlainIf (IsPlainCommand c) e) (command_row keys c e)
 command_so keys (command.Confirm i) e =
     unless_so (PlainIf (Unit {0}) e) (confirm_fault e)
-    (sending (message.ChannelReady (ready_message keys e)) (confirmed i e)) (λ o. (Stays refl refl, λ p. p))
+    (sending (message.ChannelReady (ready_message keys e)) (confirmed i e)) (λ o. (Stays refl refl, λ p. p, refl))
 command_so keys (command.Add amount hash expiry onion origin) e =
     proposed_so (origin ≡ None) (update.Add (record {
       id = next_id e.dance.log.own;
@@ -226,15 +234,15 @@ command_so keys (command.Add amount hash expiry onion origin) e =
       expiry = expiry;
       onion = onion;
       origin = origin;
-    })) e (λ p. p)
+    })) e refl (λ p. p)
 command_so keys (command.Fulfil i preimage) e =
-    proposed_so ⊥ (update.Fulfil (record { id = i; preimage = preimage })) e (λ p. p)
+    proposed_so ⊥ (update.Fulfil (record { id = i; preimage = preimage })) e tt (λ p. p)
 command_so keys (command.Fail i reason) e =
-    proposed_so ⊥ (update.Fail (record { id = i; reason = reason })) e (λ p. p)
+    proposed_so ⊥ (update.Fail (record { id = i; reason = reason })) e tt (λ p. p)
 command_so keys (command.Malformed i sha code) e =
-    proposed_so ⊥ (update.Malformed (record { id = i; sha256_of_onion = sha; failure_code = code })) e (λ p. p)
+    proposed_so ⊥ (update.Malformed (record { id = i; sha256_of_onion = sha; failure_code = code })) e tt (λ p. p)
 command_so keys (command.Fee feerate) e =
-    proposed_so (Unit {0}) (update.Fee (record { feerate = feerate })) e (λ p. p)
+    proposed_so (Unit {0}) (update.Fee (record { feerate = feerate })) e tt (λ p. p)
 command_so keys command.Sign e =
     unless_so (PlainIf (Unit {0}) e) (sign_command_fault e) (record {
       end = signs_next e;
@@ -242,12 +250,12 @@ command_so keys command.Sign e =
         sent = output.Send (message.CommitmentSigned (signed_message keys e.dance)) ∷ [];
         told = output.Signed (length e.dance.log.own) ∷ [];
       };
-    }) (λ o. (Signs refl refl, λ p. p))
+    }) (λ o. (Signs refl refl, λ p. p, refl))
 command_so keys (command.Shutdown script) e =
     unless_so (PlainIf (Unit {0}) e) (shut_fault script e)
     (completed keys (sending (message.Shutdown (shutdown_message (shuts_down script e))) (shuts_down script e)))
     (λ o. shift_as (Unit {0}) e (shuts_down script e) (settled (shuts_down script e))
-    (settled_same (shuts_down script e)) (Stays refl refl) (λ p. p))
+    (settled_same (shuts_down script e)) (Stays refl refl, λ p. p, refl))
 command_so keys (command.Decide event mark) e = tt
 command_so keys (command.Forget i) e = tt
 command_so keys (command.Resume event mark) e = tt
@@ -261,9 +269,12 @@ command_plain keys c e plain = if_turn (PlainIf (IsPlainCommand c) e) (Plain e) 
     (command_row keys c e) (command_so keys c e)
 
 noted_by : (c : Command) (e : End) (row : Result Ledger Refusal) → ledgered c e ≡ row
-    → IfTurn (Shift e) (with_ledger row e)
-noted_by c e (Ok l) is = Notes c refl is
+    → IfTurn (PlainIf ⊥ e) (with_ledger row e)
+noted_by c e (Ok l) is = (Notes c refl is, λ p. absurd p, refl)
 noted_by c e (Err r) is = tt
 
+pub note_so : (c : Command) (e : End) → IfTurn (PlainIf ⊥ e) (note_row c e)
+note_so c e = noted_by c e (ledgered c e) refl
+
 pub note_shifts : (c : Command) (e : End) → IfTurn (Shift e) (note_row c e)
-note_shifts c e = noted_by c e (ledgered c e) refl
+note_shifts c e = if_turn (PlainIf ⊥ e) (Shift e) (λ f x. x.0) (note_row c e) (note_so c e)

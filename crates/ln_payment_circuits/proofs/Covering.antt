@@ -6,6 +6,7 @@ use Rattle.std.proofs.lemmas.Bool.{eqb-true}
 use Rattle.std.proofs.lemmas.List.{take-take, take-append-le}
 use Rattle.ln_refusals.specs.declared.refusal.Refusal.{Refusal}
 use Rattle.ln_keys.specs.Signer.{Signer}
+use Rattle.ln_log.specs.declared.mark.Mark.TheVariants as mark
 use Rattle.ln_log.specs.declared.update.Update.{Update}
 use Rattle.ln_log.specs.Updates.{add_with}
 use Rattle.ln_log.specs.Log.{Log, IsWithin}
@@ -57,8 +58,8 @@ module _ (o : List ℕ × ℕ) (i : ℕ) where
 
   covers_shift : (e f : End) → IsWithin e.dance.log → Shift e f → Covers e.dance.log → Covers f.dance.log
   covers_shift e f w (Stays l g) h = covers_at f e.dance.log l h
-  covers_shift e f w (Takes u l g) h = covers_at f (log.after_receive u e.dance.log) l h
-  covers_shift e f w (Proposes u may l g) h =
+  covers_shift e f w (Takes u may l g) h = covers_at f (log.after_receive u e.dance.log) l h
+  covers_shift e f w (Proposes u may next l g) h =
       covers_at f (log.after_propose u e.dance.log) l (covers_proposed e.dance.log u w h)
   covers_shift e f w (Signs l g) h = covers_at f (log.after_sign e.dance.log) l (covers_signed e.dance.log w h)
   covers_shift e f w (Accepts l g) h = covers_at f (log.after_accept e.dance.log) l h
@@ -131,6 +132,8 @@ module _ (id_of : ℕ → List ℕ) (h : Incoming) (d i : ℕ) where
       covered_goes c e turn.end s t fit g (noted_shift (command.Decide d.event d.mark) e turn done)
   covered_then s t fit (may.RefusesDecision c e d o number is on g book) = covered_same s t g
   covered_then s t fit (may.HaltsDeciding c e d o is on g halted book) = covered_lost _ s t g
+  covered_then s t fit (may.DecidesNothing c e event turn done g book) =
+      covered_goes c e turn.end s t fit g (noted_shift (command.Decide event mark.None) e turn done)
   covered_then s t fit (may.Resumes c e event m turn done g book) =
       covered_goes c e turn.end s t fit g (noted_shift (command.Resume event m) e turn done)
   covered_then s t fit (may.Halts c g halted book) = covered_lost _ s t g

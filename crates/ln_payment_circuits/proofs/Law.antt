@@ -11,6 +11,7 @@ use Rattle.ln_refusals.specs.declared.refusal.Refusal.{Refusal}
 use Rattle.ln_keys.specs.Signer.{Signer}
 use Rattle.ln_log.specs.declared.mark.Decision.{Decision as LogDecision}
 use Rattle.ln_log.specs.declared.mark.Mark.{Mark as LogMark}
+use Rattle.ln_log.specs.declared.mark.Mark.TheVariants as mark
 use Rattle.ln_log.specs.declared.outcome.Outcome.TheVariants.{Live}
 use Rattle.ln_log.specs.declared.update.Update.{Update}
 use Rattle.ln_log.specs.Updates.{outcome, is_live, is_some, add_with, next_id}
@@ -64,7 +65,8 @@ use Rattle.ln_payment_circuits.proofs.Heard.{removal_is_held}
 use Rattle.ln_payment_circuits.proofs.Held.{some_held, found_of, among_last}
 use Rattle.ln_payment_circuits.proofs.Tidy.{tidy_dropped, decides_so, resumes_so, none_decided, none_in_base, Decides}
 use Rattle.ln_payment_circuits.proofs.Tidy.{Resumes}
-use Rattle.ln_payment_circuits.proofs.Shifts.{side_of, IsTidy, tidy_shift, tidy_based_end, plain_shift}
+use Rattle.ln_payment_circuits.proofs.Shifts.{side_of, IsTidy, tidy_shift, tidy_based_end, plain_shift, stay}
+use Rattle.ln_payment_circuits.proofs.Ledgers.{nothing}
 use Rattle.ln_payment_circuits.proofs.Preimages.{ArePaid, paid_shift, paid_dropped, paid_based}
 use Rattle.ln_payment_circuits.proofs.Waiting.{waiting_ids}
 use Rattle.ln_payment_circuits.proofs.Entries.{is_same, kind_of}
@@ -147,7 +149,8 @@ back_still b x = record { key = refl; mark = refl; decided = λ d. d }
 -- ---- what a command makes of an end
 
 proposes_shift : (e f : End) (u : Update) → IsProposed e f u → Shift e f
-proposes_shift e f u p = Proposes u p.may (ap (λ (z : End). z.dance.log) p.end) (ap (λ (z : End). z.ledger) p.end)
+proposes_shift e f u p =
+    Proposes u p.may p.next (ap (λ (z : End). z.dance.log) p.end) (ap (λ (z : End). z.ledger) p.end)
 
 forgotten_is : (keys : Signer) (y : Command) (e : End) (turn : Turn) (j : ℕ) → y ≡ command.Forget j
     → obeyed keys y e ≡ Ok turn → turn.end ≡ record e { ledger = forgotten j e.ledger }
@@ -381,6 +384,23 @@ module _ (id_of : ℕ → List ℕ) (one : HasOwnIds id_of) where
                       | inr new ↦ inl (eqb-true b c here, new)
                     ]
               ]
+
+      -- ---- an event is decided about which nothing is done
+
+      decides_nothing : (event : ℕ)
+          → Decides e.ledger f.ledger event mark.None (first_htlc e.dance.log e.ledger.undecided)
+          → f.dance.log ≡ e.dance.log → t.book ≡ s.book → IsKept id_of t
+      decides_nothing event d log book =
+          let decisions : f.ledger.decisions ≡ e.ledger.decisions = elim d.decisions [
+            | inl none ↦ none.1
+            | inr some ↦ absurd (some.3 refl)
+          ] in
+          goes_on
+          (λ h. links_go id_of h (scene_of s) (mid_scene id_of c e f s t g) book (λ d. refl) (k.payments h)
+          (stay (origin id_of) h (links_of s) (mid id_of c e f s t g) (k.payments h).0
+          (nothing (origin id_of) h c (side_of e) (side_of f) (links_of s) (mid id_of c e f s t g)
+          (to_mid id_of c e f s t g) log d.results decisions (k.payments h).0 (k.payments h).1.of_links)))
+          (alike_mid decisions (old_same s.book t.book book))
 
       -- ---- what is held is decided
 
@@ -750,6 +770,10 @@ module _ (id_of : ℕ → List ℕ) (one : HasOwnIds id_of) where
         (decides_so d.event d.mark (first_htlc e.dance.log e.ledger.undecided) e.ledger turn.end.ledger n.1) n.0 book
     kept now (may.RefusesDecision c e d o number is on g book) = refuses_decision c e is d o on number g book
     kept now (may.HaltsDeciding c e d o is on g halted book) = halts_deciding c e is d o on g halted book
+    kept now (may.DecidesNothing c e event turn done g book) =
+        let n = noted (command.Decide event mark.None) e turn done in
+        decides_nothing c e turn.end g (Notes (command.Decide event mark.None) n.0 n.1) event
+        (decides_so event mark.None (first_htlc e.dance.log e.ledger.undecided) e.ledger turn.end.ledger n.1) n.0 book
     kept now (may.Resumes c e event m turn done g book) =
         let n = noted (command.Resume event m) e turn done in
         resumes c e turn.end g (Notes (command.Resume event m) n.0 n.1) event m

@@ -11,6 +11,8 @@ pub mod Waiting  -- what it has decided, and what waits to be
 pub mod Results  -- what became of own HTLCs that forward others
 pub mod Held  -- what it holds
 pub mod Tidy  -- what holds of its ledger, whatever it takes
+pub mod Naming  -- which HTLCs its adds say that they forward
+pub mod Fitting  -- it stays fit, whatever its peer sends
 pub mod Preimages  -- fulfilments that it proposes carry their preimages
 pub mod Heard  -- what it tells of is so
 -- ---- all ends of a node
@@ -31,6 +33,7 @@ pub mod OutgoingLegs  -- where an HTLC goes out, over all ends
 pub mod IncomingLegs  -- off the end by which it came in
 pub mod Rebuilt  -- of one HTLC
 pub mod AllEnds  -- over all ends
+pub mod Reading  -- it came in by a channel, and no event tells of it
 -- ---- links and book together
 pub mod Holding  -- a payment that the book holds is held by its link
 pub mod Scenes  -- what a book's commands, lost connections, restarts and what it hears leave of a payment

@@ -147,8 +147,8 @@ first_kept e f fit x = cases x
 
     cases : Shift e f → f.dance.log.first.own ≤ f.dance.log.current.own
     cases (Stays l g) = at e.dance.log l fit.sound.own_first
-    cases (Takes u l g) = at _ l fit.sound.own_first
-    cases (Proposes u may l g) = at _ l fit.sound.own_first
+    cases (Takes u may l g) = at _ l fit.sound.own_first
+    cases (Proposes u may next l g) = at _ l fit.sound.own_first
     cases (Signs l g) = at _ l fit.sound.own_first
     cases (Accepts l g) =
         let a = fit.sound.own_first in
@@ -160,8 +160,8 @@ first_kept e f fit x = cases x
 
 pub plain_decisions : (e f : End) (x : Shift e f) → IsPlain x → f.ledger.decisions ≡ e.ledger.decisions
 plain_decisions e f (Stays l g) p = ap (λ (z : Ledger). z.decisions) g
-plain_decisions e f (Takes u l g) p = ap (λ (z : Ledger). z.decisions) g
-plain_decisions e f (Proposes u may l g) p = ap (λ (z : Ledger). z.decisions) g
+plain_decisions e f (Takes u may l g) p = ap (λ (z : Ledger). z.decisions) g
+plain_decisions e f (Proposes u may next l g) p = ap (λ (z : Ledger). z.decisions) g
 plain_decisions e f (Signs l g) p = ap (λ (z : Ledger). z.decisions) g
 plain_decisions e f (Accepts l g) p = ap (λ (z : Ledger). z.decisions) g
 plain_decisions e f (Learns l g) p = ap (λ (z : Ledger). z.decisions) g

@@ -108,13 +108,13 @@ paid_alike f l e h = subst ArePaid (sym e) h
 
 pub paid_shift : (e f : End) → IsWithin e.dance.log → ArePaid e.dance.log → Shift e f → ArePaid f.dance.log
 paid_shift e f w h (Stays l g) = paid_alike f e.dance.log l h
-paid_shift e f w h (Takes u l g) =
+paid_shift e f w h (Takes u may l g) =
     let k = e.dance.log in
     let a = w.peer_signed in
     let b = w.peer_current in
     paid_alike f (log.after_receive u k) l (subst (λ vs. ArePaidFor vs k.own)
     (sym (take-append-le k.signed.peer k.received (u ∷ []) (omega (arith, a, b)))) h)
-paid_shift e f w h (Proposes u may l g) =
+paid_shift e f w h (Proposes u may next l g) =
     let k = e.dance.log in
     paid_alike f (log.after_propose u k) l (paid_last (take k.signed.peer k.received) k.own u h
     (new_paid k u w (none_both (own_fault e u) (proposal_fault k u) may).1))

@@ -9,6 +9,7 @@ use Rattle.ln_log.specs.declared.update.Add.{Add}
 use Rattle.ln_log.specs.declared.update.Update.{Update}
 use Rattle.ln_log.specs.declared.update.Update.TheVariants as update
 use Rattle.ln_log.specs.Updates.{next_id}
+use Rattle.ln_log.specs.Limits.{HasNextId}
 use Rattle.ln_dance.specs.Messages.{update_message}
 use Rattle.ln_channel.specs.declared.command.Command.{Command}
 use Rattle.ln_channel.specs.declared.command.Command.TheVariants as command
@@ -25,16 +26,18 @@ use Rattle.ln_payment_circuits.proofs.Removing.{IsRemoving, removes_so}
 
 pub record IsProposed (e f : End) (u : Update) : Type 0 where
   pub may : propose_fault e u ≡ None
+  pub next : HasNextId e.dance.log.own u
   pub end : f ≡ proposes u e
 
-pub proposed_is : (u : Update) (e : End) (turn : Turn) → propose_row u e ≡ Ok turn → IsProposed e turn.end u
-proposed_is u e turn is = cases (propose_fault e u) refl is
+pub proposed_is : (u : Update) (e : End) (turn : Turn) → HasNextId e.dance.log.own u → propose_row u e ≡ Ok turn
+    → IsProposed e turn.end u
+proposed_is u e turn next is = cases (propose_fault e u) refl is
   where
     cases : (o : Option Refusal) → propose_fault e u ≡ o
         → unless o (sending (update_message e.dance.channel u) (proposes u e)) ≡ Ok turn → IsProposed e turn.end u
     cases None may f =
         let same : sending (update_message e.dance.channel u) (proposes u e) ≡ turn = cc in
-        record { may = may; end = ap (λ (t : Turn). t.end) (sym same) }
+        record { may = may; next = next; end = ap (λ (t : Turn). t.end) (sym same) }
     cases (Some r) may f = absurd (cc)
 
 -- ---- an add
@@ -66,7 +69,7 @@ add_with_is keys x (mark.Forward d amount expiry) (Some onion) y e turn asked is
     } in
     record {
       add = a;
-      proposed = proposed_is (update.Add a) e turn (ap (λ z. obeyed keys z e) same ∙ is);
+      proposed = proposed_is (update.Add a) e turn refl (ap (λ z. obeyed keys z e) same ∙ is);
       id = refl;
       origin = refl;
     }
@@ -87,6 +90,6 @@ removing_is v keys x y e turn asked is =
     let r = removes_so v x y asked in
     record {
       removing = r;
-      proposed = proposed_is r.change e turn (sym (r.row keys e)
+      proposed = proposed_is r.change e turn (r.next e.dance.log.own) (sym (r.row keys e)
           ∙ sym (ap (λ b. cond b (note_row y e) (command_row keys y e)) r.unnoted) ∙ is);
     }

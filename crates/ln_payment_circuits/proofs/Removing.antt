@@ -13,6 +13,7 @@ use Rattle.ln_log.specs.declared.update.Removal.{Removal}
 use Rattle.ln_log.specs.declared.update.Update.{Update}
 use Rattle.ln_log.specs.declared.update.Update.TheVariants as update
 use Rattle.ln_log.specs.Updates.{removed, add_with, outcome, is_live}
+use Rattle.ln_log.specs.Limits.{HasNextId}
 use Rattle.ln_log.specs.Log.{Log, proposal_fault, removal_fault}
 use Rattle.ln_log.proofs.Removing.{outcome-hit, outcome-other}
 use Rattle.ln_hooks.specs.declared.event.How.{How}
@@ -105,6 +106,7 @@ pub record IsRemoving (id : ℕ) (c : Command) : Type 0 where
   pub change : Update
   pub unnoted : is_of_records c ≡ false
   pub row : (keys : Signer) (e : End) → command_row keys c e ≡ propose_row change e
+  pub next : (own : List Update) → HasNextId own change
   pub removal : Removal
   pub removes : removed change ≡ Some removal
   pub is : removal.id ≡ id
@@ -112,13 +114,15 @@ pub record IsRemoving (id : ℕ) (c : Command) : Type 0 where
   pub no_add : (i : ℕ) → add_with i (change ∷ []) ≡ None
 
 proposes : (id : ℕ) (c : Command) (u : Update) (r : Removal) → is_of_records c ≡ false
-    → ((keys : Signer) (e : End) → command_row keys c e ≡ propose_row u e) → removed u ≡ Some r → r.id ≡ id
+    → ((keys : Signer) (e : End) → command_row keys c e ≡ propose_row u e) → ((own : List Update) → HasNextId own u)
+    → removed u ≡ Some r → r.id ≡ id
     → ((k : Kind) → IsRemoval id k c → removal_of_outcome r.outcome Proposed ≡ By k Proposed)
     → ((i : ℕ) → add_with i (u ∷ []) ≡ None) → IsRemoving id c
-proposes id c u r unnoted row removes is told no_add = record {
+proposes id c u r unnoted row next removes is told no_add = record {
   change = u;
   unnoted = unnoted;
   row = row;
+  next = next;
   removal = r;
   removes = removes;
   is = is;
@@ -129,14 +133,17 @@ proposes id c u r unnoted row removes is told no_add = record {
 pub removing : (id : ℕ) (k : Kind) (c : Command) → IsRemoval id k c → IsRemoving id c
 removing id = by_removal (IsRemoving id) id
     (λ p. proposes id (command.Fulfil id p) (update.Fulfil (record { id = id; preimage = p }))
-    (record { id = id; outcome = Fulfilled }) refl (λ keys e. refl) refl refl (λ k m. ap (λ z. By z Proposed) m.1)
+    (record { id = id; outcome = Fulfilled }) refl (λ keys e. refl) (λ own. tt) refl refl
+    (λ k m. ap (λ z. By z Proposed) m.1)
     (λ i. refl))
     (λ reason. proposes id (command.Fail id reason) (update.Fail (record { id = id; reason = reason }))
-    (record { id = id; outcome = Failed }) refl (λ keys e. refl) refl refl (λ k m. ap (λ z. By z Proposed) m.1)
+    (record { id = id; outcome = Failed }) refl (λ keys e. refl) (λ own. tt) refl refl
+    (λ k m. ap (λ z. By z Proposed) m.1)
     (λ i. refl))
     (λ sha code. proposes id (command.Malformed id sha code)
     (update.Malformed (record { id = id; sha256_of_onion = sha; failure_code = code }))
-    (record { id = id; outcome = Failed }) refl (λ keys e. refl) refl refl (λ k m. ap (λ z. By z Proposed) m.1)
+    (record { id = id; outcome = Failed }) refl (λ keys e. refl) (λ own. tt) refl refl
+    (λ k m. ap (λ z. By z Proposed) m.1)
     (λ i. refl))
 
 pub asked_removal : (s : Services) (x : Htlc) (c : Command) → removal_by s x x.mark ≡ Some c

@@ -51,9 +51,9 @@ tidy_alike f l g a b t = subst (λ m. IsTidyLedger m f.ledger) (sym a) (subst (I
 
 pub tidy_shift : (e f : End) → IsFit e → IsTidy e → Shift e f → IsTidy f
 tidy_shift e f h t (Stays l g) = tidy_alike f e.dance.log e.ledger l g t
-tidy_shift e f h t (Takes u l g) = tidy_alike f (log.after_receive u e.dance.log) e.ledger l g
+tidy_shift e f h t (Takes u may l g) = tidy_alike f (log.after_receive u e.dance.log) e.ledger l g
     (tidy_takes e.dance.log e.ledger u h t)
-tidy_shift e f h t (Proposes u may l g) =
+tidy_shift e f h t (Proposes u may next l g) =
     tidy_alike f (log.after_propose u e.dance.log) e.ledger l g (tidy_proposes e.dance.log e.ledger u h t)
 tidy_shift e f h t (Signs l g) = tidy_alike f (log.after_sign e.dance.log) e.ledger l g (record {
   ids = t.ids;
@@ -139,7 +139,7 @@ made_both [] ns p a b = b
 made_both (m ∷ ms) ns p a b = (a.0, made_both ms ns (moved m p) a.1 b)
 
 module _ (origin : Incoming → List ℕ × ℕ) (h : Incoming) where
-  stay : (s t : Links) (p : Payment) → IsOfLinks origin h t p → HasMoves origin h t p
+  pub stay : (s t : Links) (p : Payment) → IsOfLinks origin h t p → HasMoves origin h t p
   stay s t p k = record { moves = []; made = tt; of_links = k; note = refl }
 
   takes : (c : ℕ) (x y : Side) (s t : Links) → Changed origin c x y s t → (u : Update)
@@ -187,10 +187,10 @@ module _ (origin : Incoming → List ℕ × ℕ) (h : Incoming) where
   plain_shift c e f s t g fit (Stays l r) none p k =
       stay s t p (nothing origin h c (side_of e) (side_of f) s t g l (ap (λ (z : Ledger). z.results) r)
       (ap (λ (z : Ledger). z.decisions) r) p k)
-  plain_shift c e f s t g fit (Takes u l r) none p k =
+  plain_shift c e f s t g fit (Takes u may l r) none p k =
       stay s t p (takes c (side_of e) (side_of f) s t g u l (ap (λ (z : Ledger). z.results) r)
       (ap (λ (z : Ledger). z.decisions) r) fit.sound p k)
-  plain_shift c e f s t g fit (Proposes u may l r) none p k =
+  plain_shift c e f s t g fit (Proposes u may next l r) none p k =
       stay s t p (proposes origin h c (side_of e) (side_of f) s t g u l (ap (λ (z : Ledger). z.results) r)
       (ap (λ (z : Ledger). z.decisions) r) fit.sound (λ i. forwards_none (origin h) i u none)
       (λ is. outcome-none h.id e.dance.log.own u (plain_removes u none)) p k)

@@ -137,6 +137,10 @@ pub data Happens (id_of : ℕ → List ℕ) (s t : Snapshot) : Type 0 where
   HaltsDeciding : (c : ℕ) (e : End) (d : Decided) (o : Offer) → s.ends c ≡ Some e → IsOnFirst (id_of c) e s.book d o
       → Loses (is_of c) s t → ((b : ℕ) → t.halted b ≡ ((b == c) || s.halted b)) → t.book ≡ joined (htlc_of d o) s.book
       → Happens id_of s t
+  -- an event is decided about which nothing is to be done, as that of an own add, of what became of one, or of a close
+  DecidesNothing : (c : ℕ) (e : End) (event : ℕ) (turn : Turn)
+      → note_row (command.Decide event mark.None) e ≡ Ok turn → Goes c (Some e) (based turn.end) s t → t.book ≡ s.book
+      → Happens id_of s t
   -- what is held is decided
   Resumes : (c : ℕ) (e : End) (event : ℕ) (m : Mark) (turn : Turn) → note_row (command.Resume event m) e ≡ Ok turn
       → Goes c (Some e) (based turn.end) s t → t.book ≡ with_mark (id_of c) event m s.book → Happens id_of s t

@@ -3,8 +3,10 @@ use Rattle.std.specs.Prelude.{◌≡◌, [], ◌∷◌, true, false, None, Ok}
 use Rattle.ln_log.specs.declared.mark.EventRef.TheVariants as ref
 use Rattle.ln_log.specs.declared.update.Update.{Update}
 use Rattle.ln_log.specs.declared.update.Update.TheVariants as update
+use Rattle.ln_log.specs.Limits.{HasNextId}
 use Rattle.ln_log.specs.Log.{after_propose, after_receive, after_sign, after_accept, after_learn}
 use Rattle.ln_channel.specs.declared.command.Command.{Command}
+use Rattle.ln_channel.specs.Taking.{update_fault}
 use Rattle.ln_channel.specs.Commands.{propose_fault, ledgered}
 use Rattle.ln_channel.specs.Ledger.{refs_of, entered, resulted}
 use Rattle.ln_channel.specs.Since.{own_since, peer_since}
@@ -13,10 +15,11 @@ use Rattle.ln_channel.specs.End.{End}
 pub data Shift (e f : End) : Type 0 where
   Stays : (log : f.dance.log ≡ e.dance.log) (ledger : f.ledger ≡ e.ledger) → Shift e f
   -- an update of the peer's
-  Takes : (u : Update) (log : f.dance.log ≡ after_receive u e.dance.log) (ledger : f.ledger ≡ e.ledger) → Shift e f
-  -- an own one
-  Proposes : (u : Update) (may : propose_fault e u ≡ None) (log : f.dance.log ≡ after_propose u e.dance.log)
+  Takes : (u : Update) (may : update_fault e u ≡ None) (log : f.dance.log ≡ after_receive u e.dance.log)
       (ledger : f.ledger ≡ e.ledger) → Shift e f
+  -- an own one
+  Proposes : (u : Update) (may : propose_fault e u ≡ None) (next : HasNextId e.dance.log.own u)
+      (log : f.dance.log ≡ after_propose u e.dance.log) (ledger : f.ledger ≡ e.ledger) → Shift e f
   -- commitment_signed that is sent, and one of the peer's, by which own updates come to be held
   Signs : (log : f.dance.log ≡ after_sign e.dance.log) (ledger : f.ledger ≡ e.ledger) → Shift e f
   Accepts : (log : f.dance.log ≡ after_accept e.dance.log)
@@ -46,8 +49,8 @@ IsPlainUpdate (update.Fee f) = Unit {0}
 -- nor a decision, nor that a result is forgotten
 abbrev pub IsPlain : {e f : End} → Shift e f → Type 0
 IsPlain (Stays l g) = Unit {0}
-IsPlain (Takes u l g) = Unit {0}
-IsPlain (Proposes u may l g) = IsPlainUpdate u
+IsPlain (Takes u may l g) = Unit {0}
+IsPlain (Proposes u may next l g) = IsPlainUpdate u
 IsPlain (Signs l g) = Unit {0}
 IsPlain (Accepts l g) = Unit {0}
 IsPlain (Learns l g) = Unit {0}

@@ -73,8 +73,8 @@ shift_decided x f s = cases s
 
     cases : Shift x f → x.ledger.decided ≤ f.ledger.decided
     cases (Stays l g) = same (ap (λ (z : Ledger). z.decided) g)
-    cases (Takes u l g) = same (ap (λ (z : Ledger). z.decided) g)
-    cases (Proposes u may l g) = same (ap (λ (z : Ledger). z.decided) g)
+    cases (Takes u may l g) = same (ap (λ (z : Ledger). z.decided) g)
+    cases (Proposes u may next l g) = same (ap (λ (z : Ledger). z.decided) g)
     cases (Signs l g) = same (ap (λ (z : Ledger). z.decided) g)
     cases (Accepts l g) = same (ap (λ (z : Ledger). z.decided) g)
     cases (Learns l g) = same (ap (λ (z : Ledger). z.decided) g)
@@ -97,8 +97,8 @@ shift_decided x f s = cases s
 
 abbrev pub NewNames : {x f : ChannelEnd} → Shift x f → Type 0
 NewNames (Stays l g) = Unit {0}
-NewNames (Takes u l g) = Unit {0}
-NewNames (Proposes u may l g) = AllName (u ∷ [])
+NewNames (Takes u may l g) = Unit {0}
+NewNames (Proposes u may next l g) = AllName (u ∷ [])
 NewNames (Signs l g) = Unit {0}
 NewNames (Accepts l g) = Unit {0}
 NewNames (Learns l g) = Unit {0}
@@ -107,8 +107,9 @@ NewNames (Notes c l g) = Unit {0}
 
 pub shift_names : (x f : ChannelEnd) (s : Shift x f) → NewNames s → AllName x.dance.log.own → AllName f.dance.log.own
 shift_names x f (Stays l g) n h = subst (λ (m : Log). AllName m.own) (sym l) h
-shift_names x f (Takes u l g) n h = subst (λ (m : Log). AllName m.own) (sym l) h
-shift_names x f (Proposes u may l g) n h = subst (λ (m : Log). AllName m.own) (sym l) (names_more x.dance.log.own u h n)
+shift_names x f (Takes u may l g) n h = subst (λ (m : Log). AllName m.own) (sym l) h
+shift_names x f (Proposes u may next l g) n h =
+    subst (λ (m : Log). AllName m.own) (sym l) (names_more x.dance.log.own u h n)
 shift_names x f (Signs l g) n h = subst (λ (m : Log). AllName m.own) (sym l) h
 shift_names x f (Accepts l g) n h = subst (λ (m : Log). AllName m.own) (sym l) h
 shift_names x f (Learns l g) n h = subst (λ (m : Log). AllName m.own) (sym l) h
@@ -129,8 +130,8 @@ plain_name (update.Fee f) p i = tt
 
 pub plain_names : (x f : ChannelEnd) (s : Shift x f) → IsPlain s → NewNames s
 plain_names x f (Stays l g) n = tt
-plain_names x f (Takes u l g) n = tt
-plain_names x f (Proposes u may l g) n = plain_name u n
+plain_names x f (Takes u may l g) n = tt
+plain_names x f (Proposes u may next l g) n = plain_name u n
 plain_names x f (Signs l g) n = tt
 plain_names x f (Accepts l g) n = tt
 plain_names x f (Learns l g) n = tt

@@ -71,8 +71,8 @@ by_log x f l e same = covers_as x f (ap (λ (m : Log). take m.signed.own m.own) 
 
 shift_covers : (x f : ChannelEnd) → IsWithin x.dance.log → Shift x f → Covers x f
 shift_covers x f w (Stays l g) = by_log x f x.dance.log l refl
-shift_covers x f w (Takes u l g) = by_log x f (log.after_receive u x.dance.log) l refl
-shift_covers x f w (Proposes u may l g) = by_log x f (log.after_propose u x.dance.log) l
+shift_covers x f w (Takes u may l g) = by_log x f (log.after_receive u x.dance.log) l refl
+shift_covers x f w (Proposes u may next l g) = by_log x f (log.after_propose u x.dance.log) l
     (take-append-le x.dance.log.signed.own x.dance.log.own (u ∷ []) w.own_signed)
 shift_covers x f w (Signs l g) = λ i a is.
     let m = x.dance.log in

@@ -30,8 +30,8 @@ use Rattle.ln_world.proofs.Hearing.{IsSo, AreSo, EachSo, own_so, peer_so}
 -- the events that are new by it
 abbrev pub news : {x f : End} → Shift x f → List EventRef
 news (Stays l g) = []
-news (Takes u l g) = []
-news (Proposes u may l g) = []
+news (Takes u may l g) = []
+news (Proposes u may next l g) = []
 news (Signs l g) = []
 news {x} (Accepts l g) =
     refs_of true x.dance.log.current.own (own_since x.dance.log.current.own (log.after_accept x.dance.log))
@@ -45,8 +45,8 @@ same_ledger x f g = ap (λ (l : Ledger). l.undecided) g ∙ sym (append-nil x.le
 
 pub undecided_so : (x f : End) (s : Shift x f) → IsPlain s → f.ledger.undecided ≡ x.ledger.undecided ++ news s
 undecided_so x f (Stays l g) n = same_ledger x f g
-undecided_so x f (Takes u l g) n = same_ledger x f g
-undecided_so x f (Proposes u may l g) n = same_ledger x f g
+undecided_so x f (Takes u may l g) n = same_ledger x f g
+undecided_so x f (Proposes u may next l g) n = same_ledger x f g
 undecided_so x f (Signs l g) n = same_ledger x f g
 undecided_so x f (Accepts l g) n = ap (λ (l : Ledger). l.undecided) g
 undecided_so x f (Learns l g) n = ap (λ (l : Ledger). l.undecided) g
@@ -55,8 +55,8 @@ undecided_so x f (Notes c l g) n = absurd n
 
 pub decided_so : (x f : End) (s : Shift x f) → IsPlain s → f.ledger.decided ≡ x.ledger.decided
 decided_so x f (Stays l g) n = ap (λ (l : Ledger). l.decided) g
-decided_so x f (Takes u l g) n = ap (λ (l : Ledger). l.decided) g
-decided_so x f (Proposes u may l g) n = ap (λ (l : Ledger). l.decided) g
+decided_so x f (Takes u may l g) n = ap (λ (l : Ledger). l.decided) g
+decided_so x f (Proposes u may next l g) n = ap (λ (l : Ledger). l.decided) g
 decided_so x f (Signs l g) n = ap (λ (l : Ledger). l.decided) g
 decided_so x f (Accepts l g) n = ap (λ (l : Ledger). l.decided) g
 decided_so x f (Learns l g) n = ap (λ (l : Ledger). l.decided) g
@@ -113,8 +113,8 @@ module _ (s : Links) (c : ℕ) where
 
     pub news_so : (z : Shift x f) → AreSo s c (news z) (based f)
     news_so (Stays l g) = tt
-    news_so (Takes u l g) = tt
-    news_so (Proposes u may l g) = tt
+    news_so (Takes u may l g) = tt
+    news_so (Proposes u may next l g) = tt
     news_so (Signs l g) = tt
     news_so (Accepts l g) =
         let n = x.dance.log.current.own in

@@ -103,11 +103,11 @@ peer_le l w f =
 
 closed_shift : (e f : End) → IsFit e → IsClosedBase e.dance.log → Shift e f → IsClosedBase f.dance.log
 closed_shift e f fit h (Stays l g) = subst IsClosedBase (sym l) h
-closed_shift e f fit h (Takes u l g) = subst IsClosedBase (sym l)
+closed_shift e f fit h (Takes u may l g) = subst IsClosedBase (sym l)
     (closed_as e.dance.log (log.after_receive u e.dance.log) refl refl
     (take-append-le e.dance.log.first.peer e.dance.log.received (u ∷ [])
     (peer_le e.dance.log fit.sound.within fit.peer_first)) h)
-closed_shift e f fit h (Proposes u may l g) = subst IsClosedBase (sym l)
+closed_shift e f fit h (Proposes u may next l g) = subst IsClosedBase (sym l)
     (closed_as e.dance.log (log.after_propose u e.dance.log) refl
     (take-append-le e.dance.log.first.own e.dance.log.own (u ∷ [])
     (own_le e.dance.log fit.sound.within fit.sound.own_first)) refl h)

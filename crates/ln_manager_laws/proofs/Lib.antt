@@ -1,0 +1,6 @@
+-- ---- one link
+pub mod Turns  -- what a call makes of its end, and of the id that it has agreed on
+pub mod Seats  -- what holds of it over every list of calls
+-- ---- a manager
+pub mod Apart  -- no two of its links have one id
+pub mod Snapshots  -- what a change of one link makes of the circuits of its payments

@@ -1,0 +1,4 @@
+pub mod Calls
+pub mod Manager
+pub mod Steps
+pub use Rattle.ln_payment_circuits.specs.Snapshot
