@@ -74,7 +74,8 @@ module _ {K : Type 0} where
   abbrev pub ids : List (Seat K) → List (Option (List ℕ))
   ids xs = map seat_id xs
 
-  pub ids_split : (xs : List (Seat K)) (y : Seat K) (ys : List (Seat K)) → ids (xs ++ y ∷ ys) ≡ ids xs ++ seat_id y ∷ ids ys
+  pub ids_split : (xs : List (Seat K)) (y : Seat K) (ys : List (Seat K))
+      → ids (xs ++ y ∷ ys) ≡ ids xs ++ seat_id y ∷ ids ys
   ids_split [] y ys = refl
   ids_split (x ∷ xs) y ys = ap (λ us. seat_id x ∷ us) (ids_split xs y ys)
 
@@ -89,10 +90,14 @@ module _ {K : Type 0} where
   none_has : (id : List ℕ) (xs : List (Seat K)) → All (Other (Some id)) (ids xs)
       → NonePasses (λ (x : Seat K). has_id id x.end) xs
   none_has id [] h = tt
-  none_has id (x ∷ xs) h = (elim (either (has_id id x.end)) [
-    | inl is ↦ absurd (let other : Other (Some id) (Some id) = subst (Other (Some id)) (id_is id x is) h.0 in other refl)
-    | inr isnt ↦ isnt
-  ], none_has id xs h.1)
+  none_has id (x ∷ xs) h = (
+    elim (either (has_id id x.end)) [
+      | inl is ↦ absurd (let other : Other (Some id) (Some id) = subst (Other (Some id)) (id_is id x is) h.0
+          in other refl)
+      | inr isnt ↦ isnt
+    ],
+    none_has id xs h.1,
+  )
 
   pub found_here : (id : List ℕ) (xs : List (Seat K)) (y : Seat K) (ys : List (Seat K))
       → NonePasses (λ (x : Seat K). has_id id x.end) xs → has_id id y.end ≡ true → seat_of id (xs ++ y ∷ ys) ≡ Some y

@@ -4,3 +4,6 @@ pub mod Seats  -- what holds of it over every list of calls
 -- ---- a manager
 pub mod Apart  -- no two of its links have one id
 pub mod Snapshots  -- what a change of one link makes of the circuits of its payments
+pub mod Hosted  -- what a call for a peer or a user leaves of a link
+pub mod Orderly  -- what is kept of it
+pub mod Calling  -- what peers, users and hosts make of it

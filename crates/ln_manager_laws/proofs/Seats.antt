@@ -154,7 +154,8 @@ loaded_sound : {K : Type 0} (keys : K) (failure : Option Refusal) (o : Option En
 loaded_sound keys failure (Some e) x s fit = record { fit = fit_dropped e fit; works = λ now. (refl, tt) }
 loaded_sound keys failure None x s fit = s
 
-called_sound : {K : Type 0} (signer : K → Signer) (k : Call K) (x : Seat K) → IsSound x → IsSound (called signer k x)
+pub called_sound : {K : Type 0} (signer : K → Signer) (k : Call K) (x : Seat K) → IsSound x
+    → IsSound (called signer k x)
 called_sound signer (SetKeys keys) x s = made_sound signer (SetKeys keys) x s
 called_sound signer (NameFunding txid output) x s = made_sound signer (NameFunding txid output) x s
 called_sound signer (Handle known m) x s = made_sound signer (Handle known m) x s

@@ -291,7 +291,8 @@ module _ (P : Type 0) (O : List ℕ → Type 0) where
       (turned l (command_row keys c e)))
       (faulted_so (IsLeft P O (stage.Funded e)) (line_fault l) (turned l (command_row keys c e))
       (turned_so l e (command_row keys c e)
-      (if_turn (PlainIf (IsPlainCommand c) e) (PlainIf P e) (λ f x. (x.0, λ p. x.1 (plain p), x.2)) (command_row keys c e)
+      (if_turn (PlainIf (IsPlainCommand c) e) (PlainIf P e) (λ f x. (x.0, λ p. x.1 (plain p), x.2))
+      (command_row keys c e)
       (command_so keys c e))))
   obeyed_so keys l c (stage.AwaitsOpen s) plain = tt
   obeyed_so keys l c (stage.AwaitsAccept s) plain = tt

@@ -1,0 +1,183 @@
+-- What is kept of a manager, whatever it is called for: each end is fit, no two links have one id, each payment is one
+-- of the machine's, and the book knows each HTLC by a channel and by an event that was decided.
+use Rattle.std.proofs.Common.{◌≡◌, ◌⊎◌, inl, inr, ℕ, ◌<◌, List, [], ◌∷◌, ◌++◌, map, refl, sym, ap, ◌∙◌, subst, arith}
+use Rattle.std.proofs.Common.{Bool, true, false, cond, Option, Some, None, IfSome}
+use Rattle.ln_channel.specs.Base.{based}
+use Rattle.ln_channel.specs.End.{End}
+use Rattle.ln_book_tables.specs.declared.htlc.Htlc.{Htlc}
+use Rattle.ln_book_tables.specs.declared.htlc.Key.{Key}
+use Rattle.ln_book_tables.specs.Replay.{same}
+use Rattle.ln_book.specs.Rebuild.{no_event}
+use Rattle.ln_payment_circuits.specs.Snapshot.{Snapshot, IsIn, IsFit, AreFit}
+use Rattle.ln_payment_circuits.specs.Happens.{Happens, HasOwnIds}
+use Rattle.ln_payment_circuits.proofs.Entries.{same_is}
+use Rattle.ln_payment_circuits.proofs.Law.{IsKept, kept}
+use Rattle.ln_payment_circuits.proofs.Naming.{AllName}
+use Rattle.ln_manager_laws.specs.Calls.{Seat}
+use Rattle.ln_manager_laws.specs.Manager.{Manager, has_id, seat_of, end_in, end_of, snapshot, seat_id}
+use Rattle.ln_manager_laws.specs.Steps.{Changes, others, Works}
+use Rattle.ln_manager_laws.proofs.Seats.{IsSound}
+use Rattle.ln_manager_laws.proofs.Apart.{AreApart, ids, ids_split, apart_split, apart_join, Other, found_is}
+use Rattle.ln_manager_laws.proofs.Hosted.{IsAlone}
+use Rattle.ln_manager_laws.proofs.Snapshots.{Apart}
+
+-- ---- of each link
+
+module _ {K : Type 0} where
+  abbrev pub EachSeat : (Seat K → Type 0) → Manager K → Type 0
+  EachSeat P m = (x : Seat K) → IsIn x m.seats → P x
+
+  among_front : (x : Seat K) (xs ys : List (Seat K)) → IsIn x xs → IsIn x (xs ++ ys)
+  among_front x [] ys h = absurd h
+  among_front x (y ∷ xs) ys (inl e) = inl e
+  among_front x (y ∷ xs) ys (inr h) = inr (among_front x xs ys h)
+
+  among_rest : (x : Seat K) (xs ys : List (Seat K)) → IsIn x ys → IsIn x (xs ++ ys)
+  among_rest x [] ys h = h
+  among_rest x (y ∷ xs) ys h = inr (among_rest x xs ys h)
+
+  -- each that isn't the one in the middle stands beside any other one there
+  beside : (x y z : Seat K) (xs ys : List (Seat K)) → IsIn z (xs ++ y ∷ ys) → (y ≡ z) ⊎ IsIn z (xs ++ x ∷ ys)
+  beside x y z [] ys (inl e) = inl e
+  beside x y z [] ys (inr h) = inr (inr h)
+  beside x y z (w ∷ xs) ys (inl e) = inr (inl e)
+  beside x y z (w ∷ xs) ys (inr h) = elim (beside x y z xs ys h) [ inl e ↦ inl e | inr k ↦ inr (inr k) ]
+
+  alone_front : (a : Option (List ℕ)) (xs ys : List (Seat K)) → IsAlone a (xs ++ ys) → IsAlone a xs
+  alone_front a [] ys h = tt
+  alone_front a (x ∷ xs) ys h = (h.0, alone_front a xs ys h.1)
+
+  alone_rest : (a : Option (List ℕ)) (xs ys : List (Seat K)) → IsAlone a (xs ++ ys) → IsAlone a ys
+  alone_rest a [] ys h = h
+  alone_rest a (x ∷ xs) ys h = alone_rest a xs ys h.1
+
+  alone_both : (a : Option (List ℕ)) (xs ys : List (Seat K)) → IsAlone a xs → IsAlone a ys → IsAlone a (xs ++ ys)
+  alone_both a [] ys h k = k
+  alone_both a (x ∷ xs) ys h k = (h.0, alone_both a xs ys h.1 k)
+
+  -- ---- channels
+
+  -- a link has an end of the channel with this id
+  abbrev pub IsChannel : Manager K → List ℕ → Type 0
+  IsChannel m c = (x : Seat K) × IsIn x m.seats × ((e : End) × (x.end ≡ Some e) × (e.dance.channel ≡ c))
+
+  -- own adds say by channels which HTLCs they forward
+  abbrev pub SaysNames : Manager K → Seat K → Type 0
+  SaysNames m x = (e : End) → x.end ≡ Some e → AllName (IsChannel m) e.dance.log.own
+
+  -- what a link that works has told of the book's HTLCs, it has decided
+  abbrev pub IsDated : List Htlc → Seat K → Type 0
+  IsDated hs x = (e : End) → Works x e → (h : Htlc) → IsIn h hs → h.key.channel ≡ e.dance.channel
+      → (h.event ≡ no_event) ⊎ (h.event < e.ledger.decided)
+
+  -- an end stays, of its channel
+  abbrev pub KeepsEnd : Seat K → Seat K → Type 0
+  KeepsEnd x y = (e : End) → x.end ≡ Some e → (f : End) × (y.end ≡ Some f) × (f.dance.channel ≡ e.dance.channel)
+
+  module _ (x y : Seat K) (m n : Manager K) (g : Changes x y m n) where
+    pub was_there : IsIn x m.seats
+    was_there = subst (IsIn x) (sym g.was) (among_rest x g.before (x ∷ g.after) (inl refl))
+
+    pub is_there : IsIn y n.seats
+    is_there = subst (IsIn y) (sym g.is) (among_rest y g.before (y ∷ g.after) (inl refl))
+
+    -- the changed one, or one that was there
+    pub now_or_then : (z : Seat K) → IsIn z n.seats → (y ≡ z) ⊎ IsIn z m.seats
+    now_or_then z h = elim (beside x y z g.before g.after (subst (IsIn z) g.is h)) [
+      | inl e ↦ inl e
+      | inr k ↦ inr (subst (IsIn z) (sym g.was) k)
+    ]
+
+    pub then_or_now : (z : Seat K) → IsIn z m.seats → (x ≡ z) ⊎ IsIn z n.seats
+    then_or_now z h = elim (beside y x z g.before g.after (subst (IsIn z) g.was h)) [
+      | inl e ↦ inl e
+      | inr k ↦ inr (subst (IsIn z) (sym g.is) k)
+    ]
+
+    pub each_changed : (P Q : Seat K → Type 0) → ((z : Seat K) → P z → Q z) → Q y → EachSeat P m → EachSeat Q n
+    each_changed P Q to new old z h = elim (now_or_then z h) [
+      | inl e ↦ subst Q e new
+      | inr k ↦ to z (old z k)
+    ]
+
+    pub channels_stay : KeepsEnd x y → (c : List ℕ) → IsChannel m c → IsChannel n c
+    channels_stay keeps c h = elim (then_or_now h.0 h.1) [
+      | inr k ↦ (h.0, k, h.2)
+      | inl is ↦
+          let k = keeps h.2.0 (ap (λ (z : Seat K). z.end) is ∙ h.2.1) in
+          (y, is_there, (k.0, k.1, k.2 ∙ h.2.2))
+    ]
+
+    -- ids
+    pub apart_changed : Apart m → (IsAlone (seat_id x) (others g) → IsAlone (seat_id y) (others g)) → Apart n
+    apart_changed am alone =
+        let old = subst AreApart (ids_split g.before x g.after) (subst (λ zs. AreApart (ids zs)) g.was am) in
+        let parts = apart_split (ids g.before) (seat_id x) (ids g.after) old in
+        let now = alone (alone_both (seat_id x) g.before g.after parts.0 parts.1) in
+        subst (λ zs. AreApart (ids zs)) (sym g.is)
+        (subst AreApart (sym (ids_split g.before y g.after))
+        (apart_join (ids g.before) (seat_id x) (seat_id y) (ids g.after) old
+        (alone_front (seat_id y) g.before g.after now) (alone_rest (seat_id y) g.before g.after now)))
+
+-- ---- of all
+
+-- the circuits of payments see something happen, or nothing
+pub data Gives (id_of : ℕ → List ℕ) (s t : Snapshot) : Type 0 where
+  Happened : Happens id_of s t → Gives id_of s t
+  Same : t ≡ s → Gives id_of s t
+
+module _ {K : Type 0} (id_of : ℕ → List ℕ) where
+  -- the channel's id has a number
+  abbrev pub HasNumber : Seat K → Type 0
+  HasNumber x = (e : End) → x.end ≡ Some e → (c : ℕ) × (e.dance.channel ≡ id_of c)
+
+  pub record IsOrderly (m : Manager K) : Type 0 where
+    pub sound : EachSeat IsSound m
+    pub apart : Apart m
+    pub kept : IsKept id_of (snapshot id_of m)
+    pub keyed : (h : Htlc) → IsIn h m.book.htlcs → IsChannel m h.key.channel
+    pub dated : EachSeat (IsDated m.book.htlcs) m
+    pub named : EachSeat (SaysNames m) m
+
+  -- ---- ends are fit
+
+  at_seat : (c : ℕ) (m : Manager K) (e : End) → end_of (id_of c) m ≡ Some e
+      → (x : Seat K) × IsIn x m.seats × (x.end ≡ Some e) × (has_id (id_of c) x.end ≡ true)
+  at_seat c m e is = cases (seat_of (id_of c) m.seats) refl is
+    where
+      cases : (o : Option (Seat K)) → seat_of (id_of c) m.seats ≡ o → end_in o ≡ Some e
+          → (x : Seat K) × IsIn x m.seats × (x.end ≡ Some e) × (has_id (id_of c) x.end ≡ true)
+      cases None at f = absurd (cc)
+      cases (Some x) at f = let k = found_is (id_of c) m.seats x at in (x, k.0, f, k.1)
+
+  pub are_fit : (m : Manager K) → EachSeat IsSound m → AreFit id_of (snapshot id_of m)
+  are_fit m sound = record {
+    fit = λ c e is. let k = at_seat c m e is in subst (λ o. IfSome o IsFit) k.2 (sound k.0 k.1).fit;
+    channel = λ c e is. let k = at_seat c m e is in
+        sym (same_is (id_of c) e.dance.channel (sym (ap (has_id (id_of c)) k.2) ∙ k.3));
+  }
+
+  -- ---- what a step leaves
+
+  pub record Leaves (m n : Manager K) : Type 0 where
+    pub sound : EachSeat IsSound n
+    pub apart : Apart n
+    pub gives : Gives id_of (snapshot id_of m) (snapshot id_of n)
+    pub keyed : (h : Htlc) → IsIn h n.book.htlcs → IsChannel n h.key.channel
+    pub dated : EachSeat (IsDated n.book.htlcs) n
+    pub named : EachSeat (SaysNames n) n
+
+  pub stays_orderly : HasOwnIds id_of → (m n : Manager K) → IsOrderly m → Leaves m n → IsOrderly n
+  stays_orderly one m n h l = record {
+    sound = l.sound;
+    apart = l.apart;
+    kept = given l.gives;
+    keyed = l.keyed;
+    dated = l.dated;
+    named = l.named;
+  }
+    where
+      given : Gives id_of (snapshot id_of m) (snapshot id_of n) → IsKept id_of (snapshot id_of n)
+      given (Happened x) = kept id_of one (snapshot id_of m) (snapshot id_of n) (are_fit m h.sound) h.kept
+          (are_fit n l.sound) x
+      given (Same is) = subst (IsKept id_of) (sym is) h.kept
