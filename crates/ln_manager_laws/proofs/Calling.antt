@@ -13,6 +13,9 @@ use Rattle.ln_payment_circuits.specs.Snapshot.{IsIn}
 use Rattle.ln_payment_circuits.specs.Happens.{IsNew, HasOwnIds}
 use Rattle.ln_payment_circuits.specs.Happens as may
 use Rattle.ln_payment_circuits.proofs.Naming.{AllName, Names, names_widen, shift_decided, shift_names, plain_names}
+use Rattle.ln_payment_circuits.proofs.Naming.{shift_few}
+use Rattle.ln_channel.specs.Ledger.{Ledger, most_decided}
+use Rattle.std.proofs.lemmas.Bool.{leb-true}
 use Rattle.ln_manager_laws.specs.Calls.{Seat, Call, called}
 use Rattle.ln_manager_laws.specs.Manager.{Manager, end_in, end_of, snapshot}
 use Rattle.ln_manager_laws.specs.Steps.{Changes, others, Works, IsHosts}
@@ -23,7 +26,7 @@ use Rattle.ln_manager_laws.proofs.Hosted.{IsHosted, hosted}
 use Rattle.ln_manager_laws.proofs.Snapshots.{Apart, goes, opens, seat_same}
 use Rattle.ln_manager_laws.proofs.Orderly.{EachSeat, was_there, is_there, each_changed, channels_stay, apart_changed}
 use Rattle.ln_manager_laws.proofs.Orderly.{IsChannel, KeepsEnd, HasNumber, IsDated, SaysNames, IsOrderly, Gives}
-use Rattle.ln_manager_laws.proofs.Orderly.{Happened, Same, Leaves}
+use Rattle.ln_manager_laws.proofs.Orderly.{Happened, Same, Leaves, HasEvents}
 
 -- an end that was just opened has nothing in its base
 new_based : (e : End) → IsNew e → IsNew (based e)
@@ -34,17 +37,31 @@ none_named : (P : List ℕ → Type 0) (us : List Update) → us ≡ [] → AllN
 none_named P us e = subst (AllName P) (sym e) (λ i. tt)
 
 module _ {K : Type 0} where
-  become_keeps : (P : Type 0) (x y : Seat K) → Becomes P x.end y.end → KeepsEnd x y
+  pub become_keeps : (P : Type 0) (x y : Seat K) → Becomes P x.end y.end → KeepsEnd x y
   become_keeps P x y (Stays same) e is = (e, same ∙ is, refl)
   become_keeps P x y (Opens f new fit was now) e is = absurd (let no : None ≡ Some e = sym was ∙ is in cc)
   become_keeps P x y (Turns d f s plain channel was now) e is =
       let some : Some d ≡ Some e = sym was ∙ is in
       let same : d ≡ e = cc in (based f, now, channel ∙ ap (λ (z : End). z.dance.channel) same)
 
+  -- the events of an end are few
+  pub become_few : (P : Type 0) (x y : Seat K) → Becomes P x.end y.end → HasEvents x → HasEvents y
+  become_few P x y (Stays same) h e is = h e (sym same ∙ is)
+  become_few P x y (Opens f new fit was now) h e is =
+      let some : Some (based f) ≡ Some e = sym now ∙ is in
+      let same : based f ≡ e = cc in
+      let none : f.ledger.decided ≡ 0 = ap (λ (z : Ledger). z.decided) new.ledger in
+      subst (λ (z : End). z.ledger.decided ≤ most_decided) same
+      (subst (λ i. i ≤ most_decided) (sym none) (leb-true 0 most_decided refl))
+  become_few P x y (Turns d f s plain channel was now) h e is =
+      let some : Some (based f) ≡ Some e = sym now ∙ is in
+      let same : based f ≡ e = cc in
+      subst (λ (z : End). z.ledger.decided ≤ most_decided) same (shift_few d f s (h d was))
+
   -- ---- a seat goes on beside others, and the book stays
 
   module _ (id_of : ℕ → List ℕ) (one : HasOwnIds id_of) (x y : Seat K) (m n : Manager K) (g : Changes x y m n)
-      (h : IsOrderly id_of m) (w : IsHosted x y (others g)) (book : n.book ≡ m.book)
+      (h : IsOrderly id_of m) (w : IsHosted (Unit {0}) x y (others g)) (book : n.book ≡ m.book)
       (numbers : EachSeat (HasNumber id_of) n) where
     an : Apart n
     an = apart_changed x y m n g h.apart w.alone
@@ -127,6 +144,8 @@ module _ {K : Type 0} where
           (λ z k. subst (λ hs. IsDated hs z) (sym htlcs) k)
           (subst (λ hs. IsDated hs y) (sym htlcs) (dated_now w.becomes)) h.dated;
       named = each_changed x y m n g (SaysNames m) (SaysNames n) widened (widened y (named_now w.becomes)) h.named;
+      few = each_changed x y m n g HasEvents HasEvents (λ z k. k)
+          (become_few (Unit {0}) x y w.becomes (h.few x (was_there x y m n g))) h.few;
     }
 
   -- ---- a peer's message, a user's command, a connection

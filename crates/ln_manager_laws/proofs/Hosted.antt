@@ -85,10 +85,11 @@ module _ {K : Type 0} where
 
   -- ---- what is left
 
-  pub record IsHosted (x y : Seat K) (xs : List (Seat K)) : Type 0 where
+  -- plainly where this holds
+  pub record IsHosted (P : Type 0) (x y : Seat K) (xs : List (Seat K)) : Type 0 where
     pub sound : IsSound y
     pub halted : y.link.halted ≡ x.link.halted
-    pub becomes : Becomes (Unit {0}) x.end y.end
+    pub becomes : Becomes P x.end y.end
     pub works : (y.end ≡ x.end) ⊎ (x.link.halted ≡ false)
     pub alone : IsAlone (seat_id x) xs → IsAlone (seat_id y) xs
 
@@ -98,13 +99,13 @@ module _ {K : Type 0} where
   goes_alone O xs new s t (Loses is) h = subst (λ a. IsAlone a xs) (sym is) (none_alone xs)
   goes_alone O xs new s t (Agrees id o is) h = subst (λ a. IsAlone a xs) (sym is) (new id o)
 
-  seated_so : (O : List ℕ → Type 0) (xs : List (Seat K)) → ((id : List ℕ) → O id → IsAlone (Some id) xs)
+  seated_so : (P : Type 0) (O : List ℕ → Type 0) (xs : List (Seat K)) → ((id : List ℕ) → O id → IsAlone (Some id) xs)
       → (x : Seat K) (l : State K) → IsSound x → IsSound (seated x l) → l.halted ≡ x.link.halted
-      → (x.link.halted ≡ false → Goes (Unit {0}) O x.link l) → IsHosted x (seated x l) xs
-  seated_so O xs new x l s sound same goes = by_halted x.link.halted refl sound
+      → (x.link.halted ≡ false → Goes P O x.link l) → IsHosted P x (seated x l) xs
+  seated_so P O xs new x l s sound same goes = by_halted x.link.halted refl sound
     where
       by_halted : (b : Bool) → x.link.halted ≡ b → IsSound (cond b (record x { link = l }) (working l))
-          → IsHosted x (cond b (record x { link = l }) (working l)) xs
+          → IsHosted P x (cond b (record x { link = l }) (working l)) xs
       by_halted true is t = record {
         sound = t;
         halted = same;
@@ -118,7 +119,7 @@ module _ {K : Type 0} where
           record {
             sound = t;
             halted = same;
-            becomes = subst (λ o. Becomes (Unit {0}) o (saved_end l.stage)) (sym w.0) g.becomes;
+            becomes = subst (λ o. Becomes P o (saved_end l.stage)) (sym w.0) g.becomes;
             works = inr is;
             alone = λ h. subst (λ a. IsAlone a xs) (sym (works_id (working l) t (same ∙ is)))
                 (goes_alone O xs new x.link.stage l.stage g.id
@@ -129,32 +130,38 @@ module _ {K : Type 0} where
   never xs id o = absurd o
 
   module _ (signer : K → Signer) (x : Seat K) (s : IsSound x) where
-    made_so : (k : Call K) (O : List ℕ → Type 0) (xs : List (Seat K)) → ((id : List ℕ) → O id → IsAlone (Some id) xs)
+    made_so : (P : Type 0) (k : Call K) (O : List ℕ → Type 0) (xs : List (Seat K)) → ((id : List ℕ) → O id → IsAlone (Some id) xs)
         → IsSound (seated x (made signer k x.link))
-        → (IsReady x.link.stage → Goes (Unit {0}) O x.link (made signer k x.link))
-        → IsHosted x (seated x (made signer k x.link)) xs
-    made_so k O xs new sound goes =
-        seated_so O xs new x (made signer k x.link) s sound (made_halted signer k x.link)
+        → (IsReady x.link.stage → Goes P O x.link (made signer k x.link))
+        → IsHosted P x (seated x (made signer k x.link)) xs
+    made_so P k O xs new sound goes =
+        seated_so P O xs new x (made signer k x.link) s sound (made_halted signer k x.link)
         (λ works. goes (s.works works).1)
 
-    pub hosted : (k : Call K) (xs : List (Seat K)) → IsHosts xs k → IsHosted x (called signer k x) xs
+    pub hosted : (k : Call K) (xs : List (Seat K)) → IsHosts xs k → IsHosted (Unit {0}) x (called signer k x) xs
     hosted (SetKeys keys) xs h =
-        made_so (SetKeys keys) (λ id. ⊥) xs (never xs) (called_sound signer (SetKeys keys) x s)
+        made_so (Unit {0}) (SetKeys keys) (λ id. ⊥) xs (never xs) (called_sound signer (SetKeys keys) x s)
         (λ ready. stays_there (Unit {0}) (λ id. ⊥) x.link (record x.link { keys = keys }) ready refl)
     hosted (NameFunding txid output) xs h =
-        made_so (NameFunding txid output) (λ id. ⊥) xs (never xs) (called_sound signer (NameFunding txid output) x s)
+        made_so (Unit {0}) (NameFunding txid output) (λ id. ⊥) xs (never xs) (called_sound signer (NameFunding txid output) x s)
         (naming_goes (Unit {0}) (λ id. ⊥) txid output x.link)
     hosted (Handle known m) xs h =
-        made_so (Handle known m) (λ id. is_known (Some id) known ≡ false) xs (λ id new. new_alone known id new xs h)
+        made_so (Unit {0}) (Handle known m) (λ id. is_known (Some id) known ≡ false) xs (λ id new. new_alone known id new xs h)
         (called_sound signer (Handle known m) x s)
         (λ ready. message_goes (Unit {0}) (λ id. is_known (Some id) known ≡ false) (signer x.link.keys) known m x.link
         ready (λ new id is. ap (λ o. is_known o known) (sym is) ∙ new))
     hosted (Command c) xs h =
-        made_so (Command c) (λ id. ⊥) xs (never xs) (called_sound signer (Command c) x s)
+        made_so (Unit {0}) (Command c) (λ id. ⊥) xs (never xs) (called_sound signer (Command c) x s)
         (λ ready. command_goes (Unit {0}) (λ id. ⊥) (signer x.link.keys) c x.link ready (λ p. plain_users c h))
     hosted Connect xs h =
-        made_so Connect (λ id. ⊥) xs (never xs) (called_sound signer Connect x s)
+        made_so (Unit {0}) Connect (λ id. ⊥) xs (never xs) (called_sound signer Connect x s)
         (connection_goes (Unit {0}) (λ id. ⊥) (signer x.link.keys) x.link)
     hosted DropConnection xs h = absurd h
     hosted (Halt left) xs h = absurd h
     hosted (Load keys failure) xs h = absurd h
+
+    -- a command of the book
+    pub bidden : (c : declared.Command) (xs : List (Seat K)) → IsHosted ⊥ x (called signer (Command c) x) xs
+    bidden c xs =
+        made_so ⊥ (Command c) (λ id. ⊥) xs (never xs) (called_sound signer (Command c) x s)
+        (λ ready. command_goes ⊥ (λ id. ⊥) (signer x.link.keys) c x.link ready (λ p. absurd p))

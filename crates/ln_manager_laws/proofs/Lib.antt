@@ -7,3 +7,7 @@ pub mod Snapshots  -- what a change of one link makes of the circuits of its pay
 pub mod Hosted  -- what a call for a peer or a user leaves of a link
 pub mod Orderly  -- what is kept of it
 pub mod Calling  -- what peers, users and hosts make of it
+pub mod Losing  -- what lost connections, halts, new channels and settings do
+pub mod Hearing  -- what its book is told
+pub mod Answering  -- what a link answers to a command, and what the book makes of that
+pub mod Obeying  -- what commands about HTLCs do

@@ -1,9 +1,10 @@
 -- What is kept of a manager, whatever it is called for: each end is fit, no two links have one id, each payment is one
 -- of the machine's, and the book knows each HTLC by a channel and by an event that was decided.
-use Rattle.std.proofs.Common.{◌≡◌, ◌⊎◌, inl, inr, ℕ, ◌<◌, List, [], ◌∷◌, ◌++◌, map, refl, sym, ap, ◌∙◌, subst, arith}
+use Rattle.std.proofs.Common.{◌≡◌, ◌⊎◌, inl, inr, ℕ, ◌<◌, ◌≤◌, List, [], ◌∷◌, ◌++◌, map, refl, sym, ap, ◌∙◌, subst, arith}
 use Rattle.std.proofs.Common.{Bool, true, false, cond, Option, Some, None, IfSome}
 use Rattle.ln_channel.specs.Base.{based}
 use Rattle.ln_channel.specs.End.{End}
+use Rattle.ln_channel.specs.Ledger.{most_decided}
 use Rattle.ln_book_tables.specs.declared.htlc.Htlc.{Htlc}
 use Rattle.ln_book_tables.specs.declared.htlc.Key.{Key}
 use Rattle.ln_book_tables.specs.Replay.{same}
@@ -12,7 +13,7 @@ use Rattle.ln_payment_circuits.specs.Snapshot.{Snapshot, IsIn, IsFit, AreFit}
 use Rattle.ln_payment_circuits.specs.Happens.{Happens, HasOwnIds}
 use Rattle.ln_payment_circuits.proofs.Entries.{same_is}
 use Rattle.ln_payment_circuits.proofs.Law.{IsKept, kept}
-use Rattle.ln_payment_circuits.proofs.Naming.{AllName}
+use Rattle.ln_payment_circuits.proofs.Naming.{AllName, names_widen}
 use Rattle.ln_manager_laws.specs.Calls.{Seat}
 use Rattle.ln_manager_laws.specs.Manager.{Manager, has_id, seat_of, end_in, end_of, snapshot, seat_id}
 use Rattle.ln_manager_laws.specs.Steps.{Changes, others, Works}
@@ -70,6 +71,10 @@ module _ {K : Type 0} where
   IsDated hs x = (e : End) → Works x e → (h : Htlc) → IsIn h hs → h.key.channel ≡ e.dance.channel
       → (h.event ≡ no_event) ⊎ (h.event < e.ledger.decided)
 
+  -- an end has events left
+  abbrev pub HasEvents : Seat K → Type 0
+  HasEvents x = (e : End) → x.end ≡ Some e → e.ledger.decided ≤ most_decided
+
   -- an end stays, of its channel
   abbrev pub KeepsEnd : Seat K → Seat K → Type 0
   KeepsEnd x y = (e : End) → x.end ≡ Some e → (f : End) × (y.end ≡ Some f) × (f.dance.channel ≡ e.dance.channel)
@@ -119,6 +124,15 @@ module _ {K : Type 0} where
         (apart_join (ids g.before) (seat_id x) (seat_id y) (ids g.after) old
         (alone_front (seat_id y) g.before g.after now) (alone_rest (seat_id y) g.before g.after now)))
 
+-- ---- HTLCs of a book
+
+-- each of these was there
+abbrev pub Kin : List Htlc → List Htlc → Type 0
+Kin xs ys = (y : Htlc) → IsIn y ys → (x : Htlc) × IsIn x xs × (y.key ≡ x.key) × (y.event ≡ x.event)
+
+pub kin_same : (xs ys : List Htlc) → ys ≡ xs → Kin xs ys
+kin_same xs ys e y m = (y, subst (IsIn y) e m, refl, refl)
+
 -- ---- of all
 
 -- the circuits of payments see something happen, or nothing
@@ -138,6 +152,7 @@ module _ {K : Type 0} (id_of : ℕ → List ℕ) where
     pub keyed : (h : Htlc) → IsIn h m.book.htlcs → IsChannel m h.key.channel
     pub dated : EachSeat (IsDated m.book.htlcs) m
     pub named : EachSeat (SaysNames m) m
+    pub few : EachSeat HasEvents m
 
   -- ---- ends are fit
 
@@ -166,6 +181,7 @@ module _ {K : Type 0} (id_of : ℕ → List ℕ) where
     pub keyed : (h : Htlc) → IsIn h n.book.htlcs → IsChannel n h.key.channel
     pub dated : EachSeat (IsDated n.book.htlcs) n
     pub named : EachSeat (SaysNames n) n
+    pub few : EachSeat HasEvents n
 
   pub stays_orderly : HasOwnIds id_of → (m n : Manager K) → IsOrderly m → Leaves m n → IsOrderly n
   stays_orderly one m n h l = record {
@@ -175,9 +191,62 @@ module _ {K : Type 0} (id_of : ℕ → List ℕ) where
     keyed = l.keyed;
     dated = l.dated;
     named = l.named;
+    few = l.few;
   }
     where
       given : Gives id_of (snapshot id_of m) (snapshot id_of n) → IsKept id_of (snapshot id_of n)
       given (Happened x) = kept id_of one (snapshot id_of m) (snapshot id_of n) (are_fit m h.sound) h.kept
           (are_fit n l.sound) x
       given (Same is) = subst (IsKept id_of) (sym is) h.kept
+
+  -- ---- a step by its parts
+
+  pub dated_kin : (xs ys : List Htlc) → Kin xs ys → (z : Seat K) → IsDated xs z → IsDated ys z
+  dated_kin xs ys kin z old e works y m at =
+      let k = kin y m in
+      subst (λ i. (i ≡ no_event) ⊎ (i < e.ledger.decided)) (sym k.3)
+      (old e works k.0 k.1 (ap (λ (q : Key). q.channel) (sym k.2) ∙ at))
+
+  pub names_stay : (m n : Manager K) → ((c : List ℕ) → IsChannel m c → IsChannel n c) → (z : Seat K) → SaysNames m z
+      → SaysNames n z
+  names_stay m n stay z k e is = names_widen (IsChannel m) (IsChannel n) stay e.dance.log.own (k e is)
+
+  keyed_kin : (m n : Manager K) → ((c : List ℕ) → IsChannel m c → IsChannel n c)
+      → ((h : Htlc) → IsIn h m.book.htlcs → IsChannel m h.key.channel) → Kin m.book.htlcs n.book.htlcs
+      → (h : Htlc) → IsIn h n.book.htlcs → IsChannel n h.key.channel
+  keyed_kin m n stay old kin h m_in =
+      let k = kin h m_in in stay h.key.channel (subst (λ (q : Key). IsChannel m q.channel) (sym k.2) (old k.0 k.1))
+
+  -- a seat changes, and the book has no new HTLC
+  pub leaves_by : (x y : Seat K) (m n : Manager K) (g : Changes x y m n) → IsOrderly m → IsSound y → Apart n
+      → KeepsEnd x y → Gives id_of (snapshot id_of m) (snapshot id_of n) → Kin m.book.htlcs n.book.htlcs
+      → IsDated m.book.htlcs y → SaysNames m y → HasEvents y → Leaves m n
+  leaves_by x y m n g h sound apart keeps gives kin dated named few =
+      let stay = channels_stay x y m n g keeps in
+      record {
+        sound = each_changed x y m n g IsSound IsSound (λ z k. k) sound h.sound;
+        apart = apart;
+        gives = gives;
+        keyed = keyed_kin m n stay h.keyed kin;
+        dated = each_changed x y m n g (IsDated m.book.htlcs) (IsDated n.book.htlcs)
+            (dated_kin m.book.htlcs n.book.htlcs kin) (dated_kin m.book.htlcs n.book.htlcs kin y dated) h.dated;
+        named = each_changed x y m n g (SaysNames m) (SaysNames n) (names_stay m n stay)
+            (names_stay m n stay y named) h.named;
+        few = each_changed x y m n g HasEvents HasEvents (λ z k. k) few h.few;
+      }
+
+  -- the book alone changes, and has no new HTLC
+  pub leaves_seats : (m n : Manager K) → n.seats ≡ m.seats → IsOrderly m
+      → Gives id_of (snapshot id_of m) (snapshot id_of n) → Kin m.book.htlcs n.book.htlcs → Leaves m n
+  leaves_seats m n same h gives kin =
+      let stay = λ (c : List ℕ) (k : IsChannel m c). let there : IsChannel n c =
+      (k.0, subst (IsIn k.0) (sym same) k.1, k.2) in there in
+      record {
+        sound = λ x m_in. h.sound x (subst (IsIn x) same m_in);
+        apart = subst (λ zs. AreApart (ids zs)) (sym same) h.apart;
+        gives = gives;
+        keyed = keyed_kin m n stay h.keyed kin;
+        dated = λ x m_in. dated_kin m.book.htlcs n.book.htlcs kin x (h.dated x (subst (IsIn x) same m_in));
+        named = λ x m_in. names_stay m n stay x (h.named x (subst (IsIn x) same m_in));
+        few = λ x m_in. h.few x (subst (IsIn x) same m_in);
+      }

@@ -170,24 +170,29 @@ module _ {K : Type 0} where
         (λ id. ap (λ zs. halted_in (seat_of id zs)) seats) book
 
     -- but for what isn't seen
-    pub seat_same : (x y : Seat K) (m n : Manager K) → Changes x y m n → Apart m → Apart n → y.end ≡ x.end
-        → ((e : End) → x.end ≡ Some e → y.link.halted ≡ x.link.halted) → n.book.htlcs ≡ m.book.htlcs
-        → snapshot id_of n ≡ snapshot id_of m
-    seat_same x y m n g am an end halted book =
-        snapshot_same m n (λ id. ends id (both id)) (λ id. halts id (both id)) book
-      where
-        both : (id : List ℕ) → IsAt id x y m n ⊎ (seat_of id n.seats ≡ seat_of id m.seats)
-        both id = found_both x y m n g id am an (ap (has_id id) end)
+    module _ (x y : Seat K) (m n : Manager K) (g : Changes x y m n) (am : Apart m) (an : Apart n)
+        (end : y.end ≡ x.end) (halted : (e : End) → x.end ≡ Some e → y.link.halted ≡ x.link.halted) where
+      both : (id : List ℕ) → IsAt id x y m n ⊎ (seat_of id n.seats ≡ seat_of id m.seats)
+      both id = found_both x y m n g id am an (ap (has_id id) end)
 
-        ends : (id : List ℕ) → IsAt id x y m n ⊎ (seat_of id n.seats ≡ seat_of id m.seats) → end_of id n ≡ end_of id m
-        ends id (inl at) = ap end_in at.now ∙ end ∙ sym (ap end_in at.before)
-        ends id (inr is) = ap end_in is
+      same_ends : (id : List ℕ) → end_of id n ≡ end_of id m
+      same_ends id = elim (both id) [
+        | inl at ↦ ap end_in at.now ∙ end ∙ sym (ap end_in at.before)
+        | inr is ↦ ap end_in is
+      ]
 
-        halts : (id : List ℕ) → IsAt id x y m n ⊎ (seat_of id n.seats ≡ seat_of id m.seats)
-            → halted_in (seat_of id n.seats) ≡ halted_in (seat_of id m.seats)
-        halts id (inl at) = ap halted_in at.now ∙ by_end x.end refl ∙ sym (ap halted_in at.before)
-          where
-            by_end : (o : Option End) → x.end ≡ o → y.link.halted ≡ x.link.halted
-            by_end (Some e) is = halted e is
-            by_end None is = absurd (let no : false ≡ true = sym (ap (has_id id) is) ∙ at.has in cc)
-        halts id (inr is) = ap halted_in is
+      same_halted : (id : List ℕ) → halted_in (seat_of id n.seats) ≡ halted_in (seat_of id m.seats)
+      same_halted id = elim (both id) [
+        | inl at ↦ ap halted_in at.now ∙ by_end id at x.end refl ∙ sym (ap halted_in at.before)
+        | inr is ↦ ap halted_in is
+      ]
+        where
+          by_end : (id : List ℕ) → IsAt id x y m n → (o : Option End) → x.end ≡ o → y.link.halted ≡ x.link.halted
+          by_end id at (Some e) is = halted e is
+          by_end id at None is = absurd (let no : false ≡ true = sym (ap (has_id id) is) ∙ at.has in cc)
+
+      pub seat_same : n.book.htlcs ≡ m.book.htlcs → snapshot id_of n ≡ snapshot id_of m
+      seat_same book = snapshot_same m n same_ends same_halted book
+
+      pub seat_alike : AreSame (snapshot id_of m) (snapshot id_of n)
+      seat_alike = record { ends = λ d. same_ends (id_of d); halted = λ d. same_halted (id_of d) }

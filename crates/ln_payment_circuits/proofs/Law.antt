@@ -152,7 +152,7 @@ proposes_shift : (e f : End) (u : Update) → IsProposed e f u → Shift e f
 proposes_shift e f u p =
     Proposes u p.may p.next (ap (λ (z : End). z.dance.log) p.end) (ap (λ (z : End). z.ledger) p.end)
 
-forgotten_is : (keys : Signer) (y : Command) (e : End) (turn : Turn) (j : ℕ) → y ≡ command.Forget j
+pub forgotten_is : (keys : Signer) (y : Command) (e : End) (turn : Turn) (j : ℕ) → y ≡ command.Forget j
     → obeyed keys y e ≡ Ok turn → turn.end ≡ record e { ledger = forgotten j e.ledger }
 forgotten_is keys y e turn j is done =
     let row : Ok (quiet (record e { ledger = forgotten j e.ledger })) ≡ Ok turn =

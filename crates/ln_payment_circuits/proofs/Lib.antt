@@ -25,6 +25,8 @@ pub mod Examples
 pub mod Entries  -- what it has of a payment, and what each entry makes of that
 pub mod Removing  -- which command of it removes an HTLC, and which update that is
 pub mod Due  -- what it asks for is what the machine asks for
+pub mod Marking  -- what is decided of an HTLC that a peer offers is something
+pub mod Offering  -- and the event that waits first tells of it
 pub mod Kept  -- what an end answers of the removals that it has kept
 pub mod Told  -- what it tells the book once its connection is lost
 -- ---- the book as it is read off the ends

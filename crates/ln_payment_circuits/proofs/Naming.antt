@@ -1,6 +1,6 @@
 -- Which HTLCs that came in an end's own adds say that they forward, and how many events it has decided: what each shift
 -- leaves of that.
-use Rattle.std.proofs.Common.{◌≡◌, ℕ, ◌≤◌, List, [], ◌∷◌, ◌++◌, take, drop, refl, sym, ap, ◌∙◌, subst, arith}
+use Rattle.std.proofs.Common.{◌≡◌, ℕ, ◌+◌, ◌≤◌, ◌<◌, List, [], ◌∷◌, ◌++◌, take, drop, refl, sym, ap, ◌∙◌, subst, arith}
 use Rattle.std.proofs.Common.{Bool, true, false, cond, ◌==◌, Option, Some, None}
 use Rattle.std.proofs.lemmas.List.{take-append-drop}
 use Rattle.ln_log.specs.declared.update.Add.{Add}
@@ -10,7 +10,7 @@ use Rattle.ln_log.specs.Updates.{add_with, is_some}
 use Rattle.ln_log.specs.Log.{Log}
 use Rattle.ln_log.proofs.Removing.{add_with-more, add_with-append, or_else}
 use Rattle.ln_channel.specs.declared.command.Command.TheVariants as command
-use Rattle.ln_channel.specs.Ledger.{Ledger, first_htlc, forgotten}
+use Rattle.ln_channel.specs.Ledger.{Ledger, first_htlc, forgotten, most_decided}
 use Rattle.ln_channel.specs.End.{End, end_dropped}
 use Rattle.ln_payment_circuits.specs.Shift.{Shift, Stays, Takes, Proposes, Signs, Accepts, Learns, Closes, Notes}
 use Rattle.ln_payment_circuits.specs.Shift.{IsPlain, IsPlainUpdate}
@@ -35,6 +35,39 @@ shift_decided x f s = cases s
     cases (Notes (command.Decide event m) l g) =
         let d = (decides_so event m (first_htlc x.dance.log x.ledger.undecided) x.ledger f.ledger g).decided in
         omega (arith, d)
+    cases (Notes (command.Forget i) l g) = let is : forgotten i x.ledger ≡ f.ledger = cc in
+        same (ap (λ (z : Ledger). z.decided) (sym is))
+    cases (Notes (command.Resume event m) l g) =
+        same (ap (λ (z : Ledger). z.decided) (resumes_so event m x.ledger f.ledger g).is)
+    cases (Notes (command.Confirm i) l g) = absurd (cc)
+    cases (Notes (command.Add amount hash expiry onion origin) l g) = absurd (cc)
+    cases (Notes (command.Fulfil i preimage) l g) = absurd (cc)
+    cases (Notes (command.Fail i reason) l g) = absurd (cc)
+    cases (Notes (command.Malformed i sha code) l g) = absurd (cc)
+    cases (Notes (command.Fee feerate) l g) = absurd (cc)
+    cases (Notes command.Sign l g) = absurd (cc)
+    cases (Notes (command.Shutdown script) l g) = absurd (cc)
+
+one_more : (event was now most : ℕ) → event ≡ was → event < most → now ≡ was + 1 → now ≤ most
+one_more event was now most at few is = omega (arith, at, few, is)
+
+pub shift_few : (x f : End) → Shift x f → x.ledger.decided ≤ most_decided → f.ledger.decided ≤ most_decided
+shift_few x f s le = cases s
+  where
+    same : f.ledger.decided ≡ x.ledger.decided → f.ledger.decided ≤ most_decided
+    same e = subst (λ n. n ≤ most_decided) (sym e) le
+
+    cases : Shift x f → f.ledger.decided ≤ most_decided
+    cases (Stays l g) = same (ap (λ (z : Ledger). z.decided) g)
+    cases (Takes u may l g) = same (ap (λ (z : Ledger). z.decided) g)
+    cases (Proposes u may next l g) = same (ap (λ (z : Ledger). z.decided) g)
+    cases (Signs l g) = same (ap (λ (z : Ledger). z.decided) g)
+    cases (Accepts l g) = same (ap (λ (z : Ledger). z.decided) g)
+    cases (Learns l g) = same (ap (λ (z : Ledger). z.decided) g)
+    cases (Closes l g) = same (ap (λ (z : Ledger). z.decided) g)
+    cases (Notes (command.Decide event m) l g) =
+        let d = decides_so event m (first_htlc x.dance.log x.ledger.undecided) x.ledger f.ledger g in
+        one_more event x.ledger.decided f.ledger.decided most_decided d.turn d.few d.decided
     cases (Notes (command.Forget i) l g) = let is : forgotten i x.ledger ≡ f.ledger = cc in
         same (ap (λ (z : Ledger). z.decided) (sym is))
     cases (Notes (command.Resume event m) l g) =

@@ -90,7 +90,7 @@ use Rattle.ln_world.proofs.Given.{view_now, later_now, first_is}
 use Rattle.ln_world.proofs.Acting.{done_by}
 use Rattle.ln_world.proofs.Taking.{halted_queued, queued_there, queued_dispatched}
 use Rattle.ln_world.proofs.Dispatched.{Ran, IsWaiting, waiting_so, waiting_there}
-use Rattle.ln_world.proofs.Marking.{mark_does}
+use Rattle.ln_payment_circuits.proofs.Marking.{mark_does}
 use Rattle.ln_world.proofs.Stopping.{May, may_be_given}
 
 -- ---- lists

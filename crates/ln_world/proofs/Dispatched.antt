@@ -10,18 +10,12 @@ use Rattle.std.proofs.Math.Bool.{and-true, and-false}
 use Rattle.ln_keys.specs.declared.keys.ChannelKeys.{Ghosts}
 use Rattle.ln_keys.specs.declared.role.Role.{Role}
 use Rattle.ln_keys.specs.declared.role.Role.TheVariants.{Funder, Fundee}
-use Rattle.ln_hooks.specs.Amount.{bounded}
 use Rattle.ln_hooks.specs.declared.event.ChannelEvent.{ChannelEvent}
 use Rattle.ln_hooks.specs.declared.event.ChannelEvent.TheVariants as event
 use Rattle.ln_hooks.specs.declared.verdict.Verdict.{Verdict}
-use Rattle.ln_hooks.specs.Event.{event_of}
 use Rattle.ln_log.specs.declared.mark.EventRef.{EventRef}
-use Rattle.ln_log.specs.declared.mark.EventRef.TheVariants as ref
-use Rattle.ln_log.specs.declared.update.Update.{Update}
-use Rattle.ln_log.specs.declared.update.Update.TheVariants as update
-use Rattle.ln_log.specs.Log.{update_at}
-use Rattle.ln_channel.specs.Ledger.{htlc_of, htlc_offered, first_htlc}
-use Rattle.ln_channel.specs.Pending.{named_by, event_in, pending_from}
+use Rattle.ln_channel.specs.Ledger.{first_htlc}
+use Rattle.ln_channel.specs.Pending.{named_by, pending_from}
 use Rattle.ln_channel.specs.End.{End as ChannelEnd}
 use Rattle.ln_channel.specs.Record.{saved_end}
 use Rattle.ln_channel.specs.declared.machine.Stage.{Stage}
@@ -37,6 +31,7 @@ use Rattle.ln_world_channels.specs.Promises.{Each, AtEnd}
 use Rattle.ln_world_channels.specs.Machine.{AreInStep}
 use Rattle.ln_world_channels.specs.World.{World as Channels, channel, AreOnce}
 use Rattle.ln_world_channels.proofs.Told.{in_step_so}
+use Rattle.ln_payment_circuits.proofs.Offering.{first_offers}
 use Rattle.ln_world_dispatch.specs.Dispatcher.{Epoch, Dispatcher, Begins, next, is_at, dispatcher_at}
 use Rattle.ln_world_dispatch.specs.World.{World as Dispatchers, item, both_of, served_in, waiting_of, waiting_for}
 use Rattle.ln_world_dispatch.specs.World.{waiting, saved_in}
@@ -286,53 +281,6 @@ first_named x evs ev h is r rs und = cases (named_by r x) refl
         sym (ap (λ o. cons_option (option_map (λ event. (d, event)) o) (pending_from (d + 1) rs x)) e) ∙ list in
         let pair : ◌≡◌ {A = ℕ × ChannelEvent} (d, z) (d, ev) = cc in
         e ∙ ap (λ (q : ℕ × ChannelEvent). Some q.1) pair
-
-abbrev offer_in : Option ChannelEvent → Option Offer
-offer_in None = None
-offer_in (Some ev) = offer_of ev
-
--- what it offers is the HTLC that the ledger decides
-offered_by : (own : Bool) (u : Update) (ev : ChannelEvent) (o : Offer) → event_of own u ≡ Some ev → offer_of ev ≡ Some o
-    → (own ≡ false) × (htlc_offered (Some u) ≡ Some o.id)
-offered_by own (update.Add a) ev o e f = cases (bounded a.amount) e
-  where
-    of : (own : Bool) (amount : ℕ) → offer_of (event.Added own a.id amount a.hash a.expiry a.onion) ≡ Some o
-        → (own ≡ false) × (Some a.id ≡ Some o.id)
-    of true amount g = absurd (cc)
-    of false amount g = (refl, ap (λ (z : Option Offer). id_or a.id z) g)
-      where
-        id_or : ℕ → Option Offer → Option ℕ
-        id_or i None = Some i
-        id_or i (Some z) = Some z.id
-
-    cases : (b : Option ℕ) → option_map (λ amount. event.Added own a.id amount a.hash a.expiry a.onion) b ≡ Some ev
-        → (own ≡ false) × (Some a.id ≡ Some o.id)
-    cases None g = absurd (cc)
-    cases (Some amount) g =
-        let same : event.Added own a.id amount a.hash a.expiry a.onion ≡ ev = cc in of own amount (ap offer_of same ∙ f)
-offered_by own (update.Fulfil g) ev o e f = absurd (let same : None ≡ Some o = ap offer_in e ∙ f in cc)
-offered_by own (update.Fail g) ev o e f = absurd (let same : None ≡ Some o = ap offer_in e ∙ f in cc)
-offered_by own (update.Malformed g) ev o e f = absurd (let same : None ≡ Some o = ap offer_in e ∙ f in cc)
-offered_by own (update.Fee g) ev o e f = absurd (cc)
-
-pub first_offers : (x : ChannelEnd) (r : EventRef) (ev : ChannelEvent) (o : Offer) → named_by r x ≡ Some ev
-    → offer_of ev ≡ Some o → htlc_of x.dance.log r ≡ Some o.id
-first_offers x (ref.Own n) ev o e f = cases (update_at x.dance.log.first.own x.dance.log.own n) e
-  where
-    cases : (u : Option Update) → event_in true u ≡ Some ev → None ≡ Some o.id
-    cases None g = absurd (cc)
-    cases (Some u) g = absurd (let no : true ≡ false = (offered_by true u ev o g f).0 in cc)
-first_offers x (ref.Peer n) ev o e f = cases (update_at x.dance.log.first.peer x.dance.log.received n) e
-  where
-    cases : (u : Option Update) → event_in false u ≡ Some ev → htlc_offered u ≡ Some o.id
-    cases None g = absurd (cc)
-    cases (Some u) g = (offered_by false u ev o g f).1
-first_offers x ref.Close ev o e f = cases x.closing.closed e
-  where
-    cases : (c : Option ℕ) → option_map event.Closed c ≡ Some ev → None ≡ Some o.id
-    cases None g = absurd (cc)
-    cases (Some fee) g =
-        absurd (let same : event.Closed fee ≡ ev = cc in let no : None ≡ Some o = ap offer_of same ∙ f in cc)
 
 -- ---- in a world
 

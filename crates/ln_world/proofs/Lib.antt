@@ -30,7 +30,6 @@ pub mod Given
 pub mod Removing
 pub mod Taking
 pub mod Dispatched
-pub mod Marking
 pub mod Deciding
 pub mod Resuming
 pub mod Rebuilding
