@@ -85,6 +85,18 @@ answer_refused c o r t = by_unsure (is_unsure r) refl (is_later r) refl
         ∙ ap (λ x. cond x (with_pending_command c pending_command.Idle u)
         (refused c r o (with_pending_command c pending_command.Idle u))) at))
 
+-- where whether it was taken is known, and it isn't to be taken later
+pub answer_for_good : (c : List ℕ) (o : Out) (r : ℕ) (t : Table) → is_unsure r ≡ false → is_later r ≡ false
+    → (told_answer c o (Err r) t).htlcs ≡ refused_by c r o t.htlcs
+answer_for_good c o r t sure never =
+    let u = with_pending_command c (pending_command.InFlight o) t in
+    ap (λ (w : Table). w.htlcs) (answer_out c o (Err r) t
+    ∙ ap (λ x. cond x (with_pending_command c (pending_command.Unknown o) u)
+    (cond (is_later r) (with_pending_command c pending_command.Idle u)
+    (refused c r o (with_pending_command c pending_command.Idle u)))) sure
+    ∙ ap (λ x. cond x (with_pending_command c pending_command.Idle u)
+    (refused c r o (with_pending_command c pending_command.Idle u))) never)
+
 -- ---- what the link answers
 
 pub record IsObeyed (keys : Signer) (y : declared.Command) (e : End) (d : Done) : Type 0 where

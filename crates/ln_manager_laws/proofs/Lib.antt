@@ -11,3 +11,4 @@ pub mod Losing  -- what lost connections, halts, new channels and settings do
 pub mod Hearing  -- what its book is told
 pub mod Answering  -- what a link answers to a command, and what the book makes of that
 pub mod Obeying  -- what commands about HTLCs do
+pub mod Deciding  -- what decisions do

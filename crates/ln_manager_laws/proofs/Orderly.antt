@@ -56,6 +56,22 @@ module _ {K : Type 0} where
   alone_both a [] ys h k = k
   alone_both a (x ∷ xs) ys h k = (h.0, alone_both a xs ys h.1 k)
 
+  in_parts : (z y : Seat K) (xs ys : List (Seat K)) → IsIn z (xs ++ y ∷ ys) → (y ≡ z) ⊎ IsIn z (xs ++ ys)
+  in_parts z y [] ys (inl e) = inl e
+  in_parts z y [] ys (inr k) = inr k
+  in_parts z y (x ∷ xs) ys (inl e) = inr (inl e)
+  in_parts z y (x ∷ xs) ys (inr k) = elim (in_parts z y xs ys k) [ inl e ↦ inl e | inr l ↦ inr (inr l) ]
+
+  in_all : (z x : Seat K) (xs ys : List (Seat K)) → IsIn z (xs ++ ys) → IsIn z (xs ++ x ∷ ys)
+  in_all z x [] ys k = inr k
+  in_all z x (y ∷ xs) ys (inl e) = inl e
+  in_all z x (y ∷ xs) ys (inr k) = inr (in_all z x xs ys k)
+
+  of_all : (a : Option (List ℕ)) (z : Seat K) (xs : List (Seat K)) → IsAlone a xs → IsIn z xs → Other a (seat_id z)
+  of_all a z [] h k = absurd k
+  of_all a z (x ∷ xs) h (inl e) = subst (λ (q : Seat K). Other a (seat_id q)) e h.0
+  of_all a z (x ∷ xs) h (inr k) = of_all a z xs h.1 k
+
   -- ---- channels
 
   -- a link has an end of the channel with this id
@@ -104,6 +120,19 @@ module _ {K : Type 0} where
       | inl e ↦ subst Q e new
       | inr k ↦ to z (old z k)
     ]
+
+    -- beside the changed one stand the others
+    pub now_or_others : (z : Seat K) → IsIn z n.seats → (y ≡ z) ⊎ IsIn z (others g)
+    now_or_others z h = in_parts z y g.before g.after (subst (IsIn z) g.is h)
+
+    pub others_were : (z : Seat K) → IsIn z (others g) → IsIn z m.seats
+    others_were z h = subst (IsIn z) (sym g.was) (in_all z x g.before g.after h)
+
+    pub others_alone : Apart m → (z : Seat K) → IsIn z (others g) → Other (seat_id x) (seat_id z)
+    others_alone am z h =
+        let parts = apart_split (ids g.before) (seat_id x) (ids g.after)
+        (subst AreApart (ids_split g.before x g.after) (subst (λ zs. AreApart (ids zs)) g.was am)) in
+        of_all (seat_id x) z (others g) (alone_both (seat_id x) g.before g.after parts.0 parts.1) h
 
     pub channels_stay : KeepsEnd x y → (c : List ℕ) → IsChannel m c → IsChannel n c
     channels_stay keeps c h = elim (then_or_now h.0 h.1) [

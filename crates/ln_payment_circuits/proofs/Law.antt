@@ -160,7 +160,7 @@ forgotten_is keys y e turn j is done =
     let same_turn : quiet (record e { ledger = forgotten j e.ledger }) ≡ turn = cc in
     sym (ap (λ (z : Turn). z.end) same_turn)
 
-noted : (y : Command) (e : End) (turn : Turn) → note_row y e ≡ Ok turn
+pub noted : (y : Command) (e : End) (turn : Turn) → note_row y e ≡ Ok turn
     → (turn.end.dance.log ≡ e.dance.log) × (ledgered y e ≡ Ok turn.end.ledger)
 noted y e turn done = cases (ledgered y e) refl done
   where
