@@ -12,3 +12,5 @@ pub mod Hearing  -- what its book is told
 pub mod Answering  -- what a link answers to a command, and what the book makes of that
 pub mod Obeying  -- what commands about HTLCs do
 pub mod Deciding  -- what decisions do
+pub mod Resuming  -- and of what is held
+pub mod Stepping  -- whatever step it takes

@@ -785,7 +785,7 @@ module _ (id_of : ℕ → List ℕ) (one : HasOwnIds id_of) where
 
   -- ---- one after the other
 
-  first_kept_is : IsKept id_of nothing_yet
+  pub first_kept_is : IsKept id_of nothing_yet
   first_kept_is = record {
     tidy = λ c e is. absurd (cc);
     paid = λ c e is. absurd (cc);
