@@ -14,3 +14,5 @@ pub mod Obeying  -- what commands about HTLCs do
 pub mod Deciding  -- what decisions do
 pub mod Resuming  -- and of what is held
 pub mod Stepping  -- whatever step it takes
+pub mod Loading  -- what is loaded of its records
+pub mod Running  -- every list of steps, batches and loads

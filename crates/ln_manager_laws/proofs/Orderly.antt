@@ -67,7 +67,7 @@ module _ {K : Type 0} where
   in_all z x (y ∷ xs) ys (inl e) = inl e
   in_all z x (y ∷ xs) ys (inr k) = inr (in_all z x xs ys k)
 
-  of_all : (a : Option (List ℕ)) (z : Seat K) (xs : List (Seat K)) → IsAlone a xs → IsIn z xs → Other a (seat_id z)
+  pub of_all : (a : Option (List ℕ)) (z : Seat K) (xs : List (Seat K)) → IsAlone a xs → IsIn z xs → Other a (seat_id z)
   of_all a z [] h k = absurd k
   of_all a z (x ∷ xs) h (inl e) = subst (λ (q : Seat K). Other a (seat_id q)) e h.0
   of_all a z (x ∷ xs) h (inr k) = of_all a z xs h.1 k
@@ -185,7 +185,7 @@ module _ {K : Type 0} (id_of : ℕ → List ℕ) where
 
   -- ---- ends are fit
 
-  at_seat : (c : ℕ) (m : Manager K) (e : End) → end_of (id_of c) m ≡ Some e
+  pub at_seat : (c : ℕ) (m : Manager K) (e : End) → end_of (id_of c) m ≡ Some e
       → (x : Seat K) × IsIn x m.seats × (x.end ≡ Some e) × (has_id (id_of c) x.end ≡ true)
   at_seat c m e is = cases (seat_of (id_of c) m.seats) refl is
     where

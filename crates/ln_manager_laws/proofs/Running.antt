@@ -1,0 +1,105 @@
+-- A manager over every list of its steps, of batches that are saved, and of loads.
+use Rattle.std.proofs.Common.{◌≡◌, ℕ, List, [], ◌∷◌, refl, sym, ap, ◌∙◌, subst, Option, Some, None}
+use Rattle.ln_keys.specs.Signer.{Signer}
+use Rattle.ln_channel.specs.End.{End}
+use Rattle.ln_payment_circuits.specs.Snapshot.{Incoming, IsIn}
+use Rattle.ln_payment_circuits.specs.Circuit.{PaysOnce}
+use Rattle.ln_payment_circuits.specs.Happens.{HasOwnIds}
+use Rattle.ln_payment_circuits.proofs.Law.{first_kept_is}
+use Rattle.ln_payment_circuits.proofs.Promise.{pays_once}
+use Rattle.ln_manager_laws.specs.Calls.{Seat}
+use Rattle.ln_manager_laws.specs.Manager.{Manager, no_channels, snapshot}
+use Rattle.ln_manager_laws.specs.Steps.{Step}
+use Rattle.ln_manager_laws.specs.Runs.{IsLoaded, Course, beginning, Goes, Steps, Closes, Saves, LoadsSaved, LoadsClosed}
+use Rattle.ln_manager_laws.specs.Runs.{AreCourses, last_of}
+use Rattle.ln_manager_laws.proofs.Seats.{IsSound}
+use Rattle.ln_manager_laws.proofs.Loading.{loaded_sound, loaded_stays, loaded_orderly}
+use Rattle.ln_manager_laws.proofs.Orderly.{EachSeat, IsChannel, HasNumber, IsOrderly, stays_orderly}
+use Rattle.ln_manager_laws.proofs.Stepping.{step_stays, step_sound, step_leaves}
+
+module _ {K : Type 0} where
+  -- whatever numbers ids have
+  pub record IsGood (m : Manager K) : Type 0 where
+    pub sound : EachSeat IsSound m
+    pub orderly : (id_of : ℕ → List ℕ) → HasOwnIds id_of → EachSeat (HasNumber id_of) m → IsOrderly id_of m
+
+  -- channels that stay had their numbers before
+  numbered_before : (m n : Manager K) (id_of : ℕ → List ℕ) → ((c : List ℕ) → IsChannel m c → IsChannel n c)
+      → EachSeat (HasNumber id_of) n → EachSeat (HasNumber id_of) m
+  numbered_before m n id_of stay numbers x x_in e is =
+      let k = stay e.dance.channel (x, x_in, (e, is, refl)) in
+      let c = numbers k.0 k.1 k.2.0 k.2.1 in (c.0, sym k.2.2 ∙ c.1)
+
+  good_begun : IsGood no_channels
+  good_begun = record {
+    sound = λ x x_in. absurd x_in;
+    orderly = λ id_of one numbers. record {
+      sound = λ x x_in. absurd x_in;
+      apart = tt;
+      kept = first_kept_is id_of one;
+      keyed = λ z z_in. absurd z_in;
+      dated = λ x x_in. absurd x_in;
+      named = λ x x_in. absurd x_in;
+      few = λ x x_in. absurd x_in;
+    };
+  }
+
+  good_steps : (signer : K → Signer) (m n : Manager K) → Step signer m n → IsGood m → IsGood n
+  good_steps signer m n s g = record {
+    sound = step_sound signer m n g.sound s;
+    orderly = λ id_of one numbers.
+        let h = g.orderly id_of one (numbered_before m n id_of (step_stays signer m n g.sound s) numbers) in
+        stays_orderly id_of one m n h (step_leaves signer m n id_of one h numbers s);
+  }
+
+  good_loads : (m n : Manager K) → IsLoaded m n → IsGood m → IsGood n
+  good_loads m n l g = record {
+    sound = loaded_sound m n l g.sound;
+    orderly = λ id_of one numbers. loaded_orderly m n l id_of one numbers
+        (g.orderly id_of one (numbered_before m n id_of (loaded_stays m n l) numbers));
+  }
+
+  pub record AreGood (s : Course K) : Type 0 where
+    pub now : IsGood s.now
+    pub closed : IsGood s.closed
+    pub saved : IsGood s.saved
+
+  goes_good : (signer : K → Signer) (s t : Course K) → Goes signer s t → AreGood s → AreGood t
+  goes_good signer s t (Steps x closed saved) g = record {
+    now = good_steps signer s.now t.now x g.now;
+    closed = subst IsGood (sym closed) g.closed;
+    saved = subst IsGood (sym saved) g.saved;
+  }
+  goes_good signer s t (Closes now closed saved) g = record {
+    now = subst IsGood (sym now) g.now;
+    closed = subst IsGood (sym closed) g.now;
+    saved = subst IsGood (sym saved) g.saved;
+  }
+  goes_good signer s t (Saves now closed saved) g = record {
+    now = subst IsGood (sym now) g.now;
+    closed = subst IsGood (sym closed) g.closed;
+    saved = subst IsGood (sym saved) g.closed;
+  }
+  goes_good signer s t (LoadsSaved l closed saved) g = record {
+    now = good_loads s.saved t.now l g.saved;
+    closed = subst IsGood (sym closed) g.saved;
+    saved = subst IsGood (sym saved) g.saved;
+  }
+  goes_good signer s t (LoadsClosed l closed saved) g = record {
+    now = good_loads s.closed t.now l g.closed;
+    closed = subst IsGood (sym closed) g.closed;
+    saved = subst IsGood (sym saved) g.closed;
+  }
+
+  all_good : (signer : K → Signer) (s : Course K) (ts : List (Course K)) → AreCourses signer s ts → AreGood s
+      → AreGood (last_of s ts)
+  all_good signer s [] a g = g
+  all_good signer s (t ∷ ts) a g = all_good signer t ts a.1 (goes_good signer s t a.0 g)
+
+  pub one_payment : (signer : K → Signer) (ts : List (Course K)) → AreCourses signer beginning ts
+      → (id_of : ℕ → List ℕ) → HasOwnIds id_of → EachSeat (HasNumber id_of) (last_of beginning ts).now
+      → (h : Incoming) → PaysOnce id_of h (snapshot id_of (last_of beginning ts).now)
+  one_payment signer ts a id_of one numbers h =
+      let g = all_good signer beginning ts a (record { now = good_begun; closed = good_begun; saved = good_begun }) in
+      let k = (g.now.orderly id_of one numbers).kept in
+      pays_once id_of h (snapshot id_of (last_of beginning ts).now) k.paid (k.payments h)
