@@ -219,7 +219,7 @@ module _ {K : Type 0} (m n : Manager K) (l : IsLoaded m n) where
           (sym (same_is (id_of c) e.dance.channel (sym (ap (has_id (id_of c)) k.2) ∙ k.3)));
     }
 
-    restarted : may.Happens id_of (snapshot id_of m) (snapshot id_of n)
+    pub restarted : may.Happens id_of (snapshot id_of m) (snapshot id_of n)
     restarted = may.Restarts es (record {
       theirs = λ d is. ends (id_of d);
       others = λ d isnt. absurd (let no : true ≡ false = isnt in cc);

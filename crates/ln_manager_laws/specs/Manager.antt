@@ -1,14 +1,11 @@
 -- A manager of channels: their links, and the book of their payments.
 use Rattle.std.specs.Prelude.{◌≡◌, ℕ, List, [], Bool, true, false, Option, Some, None, if◌then◌else◌}
 use Rattle.std.specs.List.{find}
-use Rattle.ln_log.specs.Updates.{is_live}
 use Rattle.ln_channel.specs.End.{End}
 use Rattle.ln_channel.specs.Naming.{channel_of}
 use Rattle.ln_channel.specs.State.{State}
-use Rattle.ln_book_tables.specs.declared.htlc.Key.{Key}
 use Rattle.ln_book_tables.specs.Replay.{Table, no_table, same}
-use Rattle.ln_payment_circuits.specs.Snapshot.{Snapshot}
-use Rattle.ln_payment_circuits.specs.Circuit.{IsCoveredAt, removed_at, fate_at, ArePaidAt}
+use Rattle.ln_payment_circuits.specs.Snapshot.{Snapshot, IsIn}
 use Rattle.ln_manager_laws.specs.Calls.{Seat}
 
 pub record Manager (K : Type 0) : Type 0 where
@@ -49,22 +46,6 @@ id_by (Some e) agreed = Some e.dance.channel
 abbrev pub seat_id : {K : Type 0} → Seat K → Option (List ℕ)
 seat_id x = id_by x.end (agreed_id x.link)
 
--- ---- what is promised of an HTLC that came in, by the id of its channel and its own there
-
--- a signature covers what goes out for it by this channel, with this id
-abbrev pub IsCovered : {K : Type 0} → Key → Manager K → List ℕ → ℕ → Type 0
-IsCovered h m channel id = IsCoveredAt (h.channel, h.id) id (end_of channel m)
-
-pub record PaysOnce {K : Type 0} (h : Key) (m : Manager K) : Type 0 where
-  -- of the HTLCs that forward it, over all channels, a signature covers one at most
-  pub at_most_one : (c d : List ℕ) (i j : ℕ) → IsCovered h m c i → IsCovered h m d j → (c ≡ d) × (i ≡ j)
-  -- where it has a removal, even one that no signature covers, each that is covered has been removed likewise,
-  -- irrevocably committed
-  pub removed_alike : (c : List ℕ) (i : ℕ) → IsCovered h m c i → is_live (removed_at h.id (end_of h.channel m)) ≡ false
-      → fate_at i (end_of c m) ≡ removed_at h.id (end_of h.channel m)
-  -- a fulfilment of it carries a preimage of its hash
-  pub fulfilled : ArePaidAt (end_of h.channel m)
-
 -- ---- as the circuits of payments see it, where numbers stand for ids
 
 abbrev pub snapshot : {K : Type 0} → (ℕ → List ℕ) → Manager K → Snapshot
@@ -73,3 +54,8 @@ snapshot id_of m = record {
   halted = λ c. halted_in (seat_of (id_of c) m.seats);
   book = m.book.htlcs;
 }
+
+-- each channel's id is that of a number
+abbrev pub AreNumbered : {K : Type 0} → (ℕ → List ℕ) → Manager K → Type 0
+AreNumbered {K} id_of m =
+    (x : Seat K) → IsIn x m.seats → (e : End) → x.end ≡ Some e → (c : ℕ) × (e.dance.channel ≡ id_of c)

@@ -205,3 +205,7 @@ pub data Step {K : Type 0} (signer : K → Signer) (m n : Manager K) : Type 0 wh
 abbrev pub AreSteps : {K : Type 0} → (K → Signer) → Manager K → List (Manager K) → Type 0
 AreSteps signer m [] = Unit {0}
 AreSteps signer m (n ∷ ns) = Step signer m n × AreSteps signer n ns
+
+abbrev pub last_step : {K : Type 0} → Manager K → List (Manager K) → Manager K
+last_step m [] = m
+last_step m (n ∷ ns) = last_step n ns

@@ -4,4 +4,4 @@
 
 mod laws;
 
-pub use laws::ends_stay_fit;
+pub use laws::{ends_stay_fit, one_payment_out, what_is_covered_stays};
