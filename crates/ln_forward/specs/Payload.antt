@@ -3,7 +3,7 @@ use Rattle.std.specs.Prelude.{◌≡◌, ℕ, ◌<◌, ◌^◌, List, [], ◌∷
 use Rattle.std.specs.Prelude.{IfSome, Result, Ok, Err, ◌==◌, nat_lt, if◌then◌else◌}
 use Rattle.ln_bytes.specs.Reading.{◌>>=◌}
 use Rattle.ln_bytes.specs.ShortId.{short_id_bytes}
-use Rattle.ln_bytes.specs.Tlv.{Spells, stream_at, value_of}
+use Rattle.ln_bytes.specs.Tlv.{Spells, stream_at, value_of, as_record, stream_bytes}
 use Rattle.ln_bytes.specs.Truncated.{truncated, truncated_at}
 use Rattle.ln_bytes.specs.declared.fault.Fault.{Fault}
 use Rattle.ln_bytes.specs.declared.fault.Fault.TheVariants.{FieldLength}
@@ -57,6 +57,29 @@ pub record SpellsHop (h : Hop) (bytes : List ℕ) : Type 0 where
   pub records : List Record
   pub spells : Spells known records bytes
   pub has : HasHop h records
+
+-- ---- how a payload is written
+
+-- the values fit their fields
+pub record IsWideHop (h : Hop) : Type 0 where
+  pub amount : IfSome h.amount (λ n. n < 2 ^ 64)
+  pub expiry : IfSome h.expiry (λ n. n < 2 ^ 32)
+  pub next : IfSome h.next (λ bytes. length bytes ≡ 8)
+  pub payment : IfSome h.payment (λ p. (length p.secret ≡ 32) × (p.total < 2 ^ 64))
+
+-- a record of this type, where there is a value
+abbrev pub record_if : ℕ → Option (List ℕ) → List Record
+record_if typ None = []
+record_if typ (Some value) = as_record typ value ∷ []
+
+-- one for each value that there is, and no others
+abbrev pub hop_records : Hop → List Record
+hop_records h =
+    record_if 2 (option_map truncated h.amount) ++ (record_if 4 (option_map truncated h.expiry)
+    ++ (record_if 6 h.next ++ record_if 8 (option_map payment_bytes h.payment)))
+
+abbrev pub payload_bytes : Hop → List ℕ
+payload_bytes h = stream_bytes (hop_records h)
 
 -- ---- how a payload is read
 

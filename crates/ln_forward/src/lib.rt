@@ -8,4 +8,4 @@ mod payload;
 
 pub use checks::{Expected, Incoming, Policy, Route, check_final, check_forward};
 pub use failure::Failure;
-pub use payload::{Payload, Payment, one_payload, read_payload};
+pub use payload::{Payload, Payment, one_payload, read_payload, write_payload};

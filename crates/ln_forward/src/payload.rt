@@ -1,12 +1,19 @@
 //! What the payload of a hop asks for.
 
-ghost use Rattle.std.specs.Prelude.{◌≡◌, ◌≢◌, ℕ, List, IfOk, Ok, Err, option_map};
+ghost use Rattle.std.specs.Prelude.{◌≡◌, ◌≢◌, ◌++◌, ◌∷◌, ◌<◌, ◌^◌, [], ℕ, List, IfOk, IfErr, IfSome, OnOk, Ok};
+ghost use Rattle.std.specs.Prelude.{Err, length, option_map};
 ghost use Rattle.ln_bytes.specs.Reading.{Gives};
+ghost use Rattle.ln_bytes.specs.Tlv.{as_record};
+ghost use Rattle.ln_bytes.specs.Truncated.{truncated};
 ghost use Rattle.ln_bytes.specs.declared.fault.Fault.{Fault};
 ghost use Rattle.ln_forward.specs.Payload.{Hop, HasHop, SpellsHop, SpellsNumber, SpellsId, SpellsPayment, id_bytes};
-ghost use Rattle.ln_forward.specs.Payload.{hop_of, hop_in, payload_at, number_in, short_id_in, payment_in};
+ghost use Rattle.ln_forward.specs.Payload.{hop_of, hop_in, payload_at, number_in, short_id_in, payment_in, record_if};
+ghost use Rattle.ln_forward.specs.Payload.{hop_records, payload_bytes, payment_bytes, IsWideHop};
 
-use ln_bytes::{Fault, Record, ShortId, read_tlvs, read_tu32, read_tu64, value_of};
+use ln_bytes::{
+    Bytes, Fault, Record, ShortId, read_tlvs, read_tu32, read_tu64, value_of, write_tlvs,
+    write_tu64,
+};
 use std::alloc::Global;
 
 /// What proves to the final node that the sender was told of the payment (BOLT 4, "Basic Multi-Part Payments").
@@ -118,6 +125,105 @@ fn payment_in(value: Option<&[u8]>) -> Result<Option<Payment>, Fault>
             Ok(Some(Payment { secret, total }))
         }
     }
+}
+
+fn push_value(records: &mut Vec<Record>, typ: u64, value: Vec<u8>) -> Result<(), Fault>
+    ensures pushed { OnOk result (records.new.items ≡ records.old.items ++ as_record typ value.items ∷ []) }
+    ensures fails_for_memory_alone { IfErr result (λ e. e ≡ Fault.Memory) }
+{
+    let value = Bytes::new(value);
+    records.push(Record { typ, value })?;
+    Ok(())
+}
+
+fn push_number(
+    alloc: Global,
+    records: &mut Vec<Record>,
+    typ: u64,
+    number: Option<u64>,
+) -> Result<(), Fault>
+    ensures pushed { OnOk result (records.new.items
+        ≡ records.old.items ++ record_if typ (option_map truncated number)) }
+    ensures is_wide { IfSome number (λ n. n < 2 ^ 64) }
+    ensures fails_for_memory_alone { IfErr result (λ e. e ≡ Fault.Memory) }
+{
+    let Some(number) = number else {
+        return Ok(());
+    };
+    let mut bytes = [0; 8];
+    let len = write_tu64(number, &mut bytes);
+    push_value(records, typ, Vec::from_slice(alloc, &bytes[..len])?)
+}
+
+fn push_expiry(alloc: Global, records: &mut Vec<Record>, expiry: Option<u32>) -> Result<(), Fault>
+    ensures pushed { OnOk result (records.new.items
+        ≡ records.old.items ++ record_if 4 (option_map truncated expiry)) }
+    ensures is_wide { IfSome expiry (λ n. n < 2 ^ 32) }
+    ensures fails_for_memory_alone { IfErr result (λ e. e ≡ Fault.Memory) }
+{
+    match expiry {
+        Some(expiry) => push_number(alloc, records, 4, Some(u64::from(expiry))),
+        None => Ok(()),
+    }
+}
+
+fn push_short_id(alloc: Global, records: &mut Vec<Record>, id: Option<ShortId>) -> Result<(), Fault>
+    ensures pushed { OnOk result (records.new.items ≡ records.old.items ++ record_if 6 (option_map id_bytes id)) }
+    ensures is_wide { IfSome (option_map id_bytes id) (λ bytes. length bytes ≡ 8) }
+    ensures fails_for_memory_alone { IfErr result (λ e. e ≡ Fault.Memory) }
+{
+    match id {
+        Some(id) => push_value(records, 6, Vec::from_slice(alloc, &id.to_bytes())?),
+        None => Ok(()),
+    }
+}
+
+fn push_payment(
+    alloc: Global,
+    records: &mut Vec<Record>,
+    payment: Option<Payment>,
+) -> Result<(), Fault>
+    ensures pushed { OnOk result (records.new.items
+        ≡ records.old.items ++ record_if 8 (option_map payment_bytes payment)) }
+    ensures is_wide { IfSome payment (λ p. (length p.secret ≡ 32) × (p.total < 2 ^ 64)) }
+    ensures fails_for_memory_alone { IfErr result (λ e. e ≡ Fault.Memory) }
+{
+    let Some(payment) = payment else {
+        return Ok(());
+    };
+    let mut bytes = [0; 8];
+    let len = write_tu64(payment.total, &mut bytes);
+    let mut value = Vec::from_slice(alloc, &payment.secret)?;
+    value.extend_from_slice(&bytes[..len])?;
+    push_value(records, 8, value)
+}
+
+fn records_of(alloc: Global, payload: &Payload) -> Result<Vec<Record>, Fault>
+    ensures records { IfOk result (λ v. v.items ≡ hop_records (hop_of payload.now)) }
+    ensures is_wide { IfOk result (λ v. IsWideHop (hop_of payload.now)) }
+    ensures fails_for_memory_alone { IfErr result (λ e. e ≡ Fault.Memory) }
+{
+    let mut records = Vec::new(alloc);
+    push_number(alloc, &mut records, 2, payload.amount)?;
+    push_expiry(alloc, &mut records, payload.expiry)?;
+    push_short_id(alloc, &mut records, payload.next)?;
+    push_payment(alloc, &mut records, payload.payment)?;
+    Ok(records)
+}
+
+/// Writes the payload of a hop (BOLT 4, "`payload` Format"): a record for each value that it has, in the order of their
+/// types, and no other. Takes memory.
+///
+/// An invoice's payee reads `amount`, `expiry` and `payment`, any other hop `amount`, `expiry` and `next`. Error: 60
+/// where there is no memory.
+pub fn write_payload(alloc: Global, payload: &Payload) -> Result<Vec<u8>, Fault>
+    ensures writes_the_records { IfOk result (λ v. v.items ≡ payload_bytes (hop_of payload.now)) }
+    ensures is_spelled_so { IfOk result (λ v. SpellsHop (hop_of payload.now) v.items) }
+    ensures is_read_again { IfOk result (λ v. payload_at v.items ≡ Ok (hop_of payload.now)) }
+    ensures fails_for_memory_alone { IfErr result (λ e. e ≡ Fault.Memory) }
+{
+    let records = records_of(alloc, payload)?;
+    write_tlvs(alloc, &records)
 }
 
 /// Bytes are one payload at most, and no payload is refused.
