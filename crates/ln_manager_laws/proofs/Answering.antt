@@ -1,6 +1,6 @@
 -- What a link that works answers to a command, and what its book makes of that answer.
 use Rattle.std.proofs.Common.{◌≡◌, ◌⊎◌, inl, inr, ℕ, List, [], ◌∷◌, refl, sym, ap, ◌∙◌, subst, Bool, true, false, cond}
-use Rattle.std.proofs.Common.{not, Option, Some, None, Result, Ok, Err, nat_lt}
+use Rattle.std.proofs.Common.{Option, Some, None, Result, Ok, Err}
 use Rattle.std.specs.Map.{lookup}
 use Rattle.indexmap.specs.IndexMap.{insert_entry}
 use Rattle.ln_refusals.specs.declared.refusal.Refusal.{Refusal}
@@ -17,13 +17,12 @@ use Rattle.ln_channel.specs.Record.{saved_end}
 use Rattle.ln_channel.specs.State.{State}
 use Rattle.ln_channel.specs.Step.{Done, turned, faulted, line_fault, is_of_records, noted, asked, commanded}
 use Rattle.ln_channel.specs.Step as step
-use Rattle.ln_book_tables.specs.declared.htlc.Htlc.{Htlc}
 use Rattle.ln_book_tables.specs.declared.entry.Out.{Out}
 use Rattle.ln_book_tables.specs.declared.entry.PendingCommand.{PendingCommand}
 use Rattle.ln_book_tables.specs.declared.entry.PendingCommand.TheVariants as pending_command
 use Rattle.ln_book_tables.specs.declared.entry.Entry.TheVariants as entry
-use Rattle.ln_book_tables.specs.Replay.{Table, same, replay, taken_by, refused_by, pending_command_of, pending_command_at}
-use Rattle.ln_book_tables.specs.Replay.{with_pending_command, answered_at, answered_out, is_unsure, is_later, done}
+use Rattle.ln_book_tables.specs.Replay.{Table, same, replay, taken_by, refused_by, pending_command_of}
+use Rattle.ln_book_tables.specs.Replay.{with_pending_command, answered_at, answered_out, is_unsure, is_later}
 use Rattle.ln_book_tables.specs.Replay.{refused}
 use Rattle.ln_payment_circuits.specs.Happens.{obeyed}
 use Rattle.ln_payment_circuits.proofs.Calls.{IfTurn, PlainIf, command_so, note_so, IsPlainCommand}
@@ -78,12 +77,16 @@ answer_refused c o r t = by_unsure (is_unsure r) refl (is_later r) refl
         (refused c r o (with_pending_command c pending_command.Idle u)))) is
         ∙ ap (λ x. cond x (with_pending_command c pending_command.Idle u)
         (refused c r o (with_pending_command c pending_command.Idle u))) at))
-    by_unsure false is false at = inr (is, at, ap (λ (w : Table). w.htlcs) (answer_out c o (Err r) t
-        ∙ ap (λ x. cond x (with_pending_command c (pending_command.Unknown o) u)
-        (cond (is_later r) (with_pending_command c pending_command.Idle u)
-        (refused c r o (with_pending_command c pending_command.Idle u)))) is
-        ∙ ap (λ x. cond x (with_pending_command c pending_command.Idle u)
-        (refused c r o (with_pending_command c pending_command.Idle u))) at))
+    by_unsure false is false at = inr (
+      is,
+      at,
+      ap (λ (w : Table). w.htlcs) (answer_out c o (Err r) t
+          ∙ ap (λ x. cond x (with_pending_command c (pending_command.Unknown o) u)
+          (cond (is_later r) (with_pending_command c pending_command.Idle u)
+          (refused c r o (with_pending_command c pending_command.Idle u)))) is
+          ∙ ap (λ x. cond x (with_pending_command c pending_command.Idle u)
+          (refused c r o (with_pending_command c pending_command.Idle u))) at),
+    )
 
 -- where whether it was taken is known, and it isn't to be taken later
 pub answer_for_good : (c : List ℕ) (o : Out) (r : ℕ) (t : Table) → is_unsure r ≡ false → is_later r ≡ false
@@ -104,7 +107,8 @@ pub record IsObeyed (keys : Signer) (y : declared.Command) (e : End) (d : Done) 
   pub row : obeyed keys y e ≡ Ok turn
   pub stage : d.stage ≡ stage.Funded turn.end
 
-turned_is : (keys : Signer) (y : declared.Command) (e : End) (l : ConnectionState) (row : Result Turn Refusal) (d : Done)
+turned_is : (keys : Signer) (y : declared.Command) (e : End) (l : ConnectionState) (row : Result Turn Refusal)
+    (d : Done)
     → obeyed keys y e ≡ row → turned l row ≡ Ok d → IsObeyed keys y e d
 turned_is keys y e l (Ok t) d is f =
     let same_done : record { connection = l; stage = stage.Funded t.end; outputs = all_of t.handed } ≡ d = cc in
@@ -166,4 +170,5 @@ obeyed_channel keys y e turn = by_kind (is_of_records y)
     by_kind : (b : Bool) → cond b (note_row y e) (command_row keys y e) ≡ Ok turn
         → turn.end.dance.channel ≡ e.dance.channel
     by_kind true is = (turn_holds (PlainIf ⊥ e) (note_row y e) turn (note_so y e) is).2
-    by_kind false is = (turn_holds (PlainIf (IsPlainCommand y) e) (command_row keys y e) turn (command_so keys y e) is).2
+    by_kind false is = (turn_holds (PlainIf (IsPlainCommand y) e) (command_row keys y e) turn
+        (command_so keys y e) is).2

@@ -1,9 +1,8 @@
 -- No two links of a manager have one id, so each is found by its own.
 use Rattle.std.proofs.Common.{◌≡◌, inl, inr, ℕ, List, [], ◌∷◌, ◌++◌, map, refl, sym, ap, ◌∙◌, subst, Bool, true, false}
-use Rattle.std.proofs.Common.{cond, Option, Some, None, append_assoc}
+use Rattle.std.proofs.Common.{cond, Option, Some, None}
 use Rattle.std.specs.List.{find}
 use Rattle.ln_channel.specs.End.{End}
-use Rattle.ln_book_tables.specs.Replay.{same}
 use Rattle.ln_payment_circuits.specs.Snapshot.{All, IsIn, NonePasses}
 use Rattle.ln_payment_circuits.proofs.Entries.{is_same, same_is}
 use Rattle.ln_payment_circuits.proofs.Lists.{either}

@@ -1,24 +1,22 @@
 -- What peers, users and hosts make of a manager, where its book has no part in it.
-use Rattle.std.proofs.Common.{◌≡◌, ◌⊎◌, inl, inr, ℕ, ◌≤◌, ◌<◌, List, [], ◌∷◌, ◌++◌, refl, sym, ap, ◌∙◌, subst, arith}
-use Rattle.std.proofs.Common.{Option, Some, None, false}
+use Rattle.std.proofs.Common.{◌≡◌, ◌⊎◌, inl, inr, ℕ, ◌≤◌, ◌<◌, List, [], refl, sym, ap, ◌∙◌, subst, arith}
+use Rattle.std.proofs.Common.{Some, None, false}
 use Rattle.ln_keys.specs.Signer.{Signer}
-use Rattle.ln_log.specs.Updates.{add_with}
 use Rattle.ln_log.specs.declared.update.Update.{Update}
 use Rattle.ln_channel.specs.Base.{based, entering, without_removed}
 use Rattle.ln_channel.specs.End.{End}
-use Rattle.ln_book_tables.specs.declared.htlc.Htlc.{Htlc}
 use Rattle.ln_book_tables.specs.Replay.{Table}
 use Rattle.ln_book.specs.Rebuild.{no_event}
 use Rattle.ln_payment_circuits.specs.Snapshot.{IsIn}
 use Rattle.ln_payment_circuits.specs.Happens.{IsNew, HasOwnIds}
 use Rattle.ln_payment_circuits.specs.Happens as may
-use Rattle.ln_payment_circuits.proofs.Naming.{AllName, Names, names_widen, shift_decided, shift_names, plain_names}
+use Rattle.ln_payment_circuits.proofs.Naming.{AllName, names_widen, shift_decided, shift_names, plain_names}
 use Rattle.ln_payment_circuits.proofs.Naming.{shift_few}
 use Rattle.ln_channel.specs.Ledger.{Ledger, most_decided}
 use Rattle.std.proofs.lemmas.Bool.{leb-true}
 use Rattle.ln_manager_laws.specs.Calls.{Seat, Call, called}
 use Rattle.ln_manager_laws.specs.Manager.{Manager, end_in, end_of, snapshot}
-use Rattle.ln_manager_laws.specs.Steps.{Changes, others, Works, IsHosts}
+use Rattle.ln_manager_laws.specs.Steps.{Changes, others, IsHosts}
 use Rattle.ln_manager_laws.proofs.Turns.{Becomes, Stays, Opens, Turns}
 use Rattle.ln_manager_laws.proofs.Seats.{IsSound}
 use Rattle.ln_manager_laws.proofs.Apart.{found_in}

@@ -1,6 +1,7 @@
 -- What the decision of an event leaves of a manager: its link takes it, refuses it, or halts before it has.
-use Rattle.std.proofs.Common.{◌≡◌, ◌⊎◌, inl, inr, ℕ, ◌+◌, ◌≤◌, ◌<◌, List, [], ◌∷◌, ◌++◌, filter, refl, sym, ap, ◌∙◌}
-use Rattle.std.proofs.Common.{subst, arith, Bool, true, false, cond, not, ◌==◌, ◌&&◌, Option, Some, None, Result, Ok, Err}
+use Rattle.std.proofs.Common.{◌≡◌, ◌⊎◌, inl, inr, ℕ, ◌+◌, ◌≤◌, ◌<◌, List, [], ◌∷◌, ◌++◌, refl, sym, ap, ◌∙◌}
+use Rattle.std.proofs.Common.{subst, arith, Bool, true, false, cond, not, ◌==◌, ◌&&◌, Option, Some, None, Result, Ok}
+use Rattle.std.proofs.Common.{Err}
 use Rattle.std.specs.Prelude.{option_map}
 use Rattle.std.specs.List.{list_any}
 use Rattle.std.proofs.lemmas.Bool.{eqb-true, eq-eqb, ltb-true, and_parts}
@@ -16,11 +17,10 @@ use Rattle.ln_hooks.specs.declared.verdict.Verdict.{Verdict}
 use Rattle.ln_channel.specs.declared.command.Command as declared
 use Rattle.ln_channel.specs.declared.command.Command.TheVariants as command
 use Rattle.ln_channel.specs.declared.machine.ConnectionState.{ConnectionState}
-use Rattle.ln_channel.specs.declared.machine.Stage.{Stage}
 use Rattle.ln_channel.specs.declared.machine.Stage.TheVariants as stage
 use Rattle.ln_channel.specs.Base.{based, based_stage}
 use Rattle.ln_channel.specs.Commands.{note_row, with_ledger, ledgered}
-use Rattle.ln_channel.specs.End.{End, Turn, end_dropped}
+use Rattle.ln_channel.specs.End.{End, end_dropped}
 use Rattle.ln_channel.specs.Ledger.{Ledger, most_decided, first_htlc, decide_row, decided_first, marked, is_in_turn}
 use Rattle.ln_channel.specs.Ledger.{is_of_event}
 use Rattle.ln_channel.specs.Record.{saved_end}
@@ -34,14 +34,15 @@ use Rattle.ln_book_tables.specs.declared.htlc.Offer.{Offer}
 use Rattle.ln_book_tables.specs.declared.entry.Decided.{Decided}
 use Rattle.ln_book_tables.specs.declared.entry.Out.TheVariants as out
 use Rattle.ln_book_tables.specs.declared.entry.Entry.TheVariants as entry
-use Rattle.ln_book_tables.specs.Replay.{Table, same, replay, is_told, is_undecided, is_decided, is_htlc, htlc_of, joined}
-use Rattle.ln_book_tables.specs.Replay.{with_offer, with_decided, changed_first, left_out, decide, taken_by, refused_by}
+use Rattle.ln_book_tables.specs.Replay.{Table, same, replay, is_told, is_undecided, is_decided, is_htlc, htlc_of}
+use Rattle.ln_book_tables.specs.Replay.{joined}
+use Rattle.ln_book_tables.specs.Replay.{with_offer, with_decided, changed_first, left_out, decide}
 use Rattle.ln_book.specs.Answers.{command_subject, answer_to}
 use Rattle.ln_book.specs.Commands.{Services}
 use Rattle.ln_book.specs.Kept.{next_own_id}
 use Rattle.ln_book.specs.Marks.{offer_of, decision, mark_of}
 use Rattle.ln_book.specs.Rebuild.{no_event}
-use Rattle.ln_payment_circuits.specs.Snapshot.{IsIn, NonePasses, All}
+use Rattle.ln_payment_circuits.specs.Snapshot.{IsIn, NonePasses}
 use Rattle.ln_payment_circuits.specs.Happens.{HasOwnIds, IsOnFirst}
 use Rattle.ln_payment_circuits.specs.Happens as may
 use Rattle.ln_payment_circuits.proofs.Law.{noted as noted_so}
@@ -52,15 +53,15 @@ use Rattle.ln_payment_circuits.proofs.Marking.{mark_does}
 use Rattle.ln_payment_circuits.proofs.Naming.{AllName}
 use Rattle.ln_payment_circuits.proofs.Offering.{first_offers}
 use Rattle.ln_payment_circuits.proofs.Tidy.{decides_so}
-use Rattle.ln_manager_laws.specs.Calls.{Seat, working, Command, Halt, called}
+use Rattle.ln_manager_laws.specs.Calls.{Seat, Command, Halt, called}
 use Rattle.ln_manager_laws.specs.Manager.{Manager, snapshot, end_in, seat_of, seat_id, id_by, agreed_id}
 use Rattle.ln_manager_laws.specs.Steps.{Changes, others, Works, IsNext, obeying, done_or_refused}
 use Rattle.ln_manager_laws.proofs.Answering.{told_answer, answer_done, answer_for_good, IsObeyed, commanded_is}
 use Rattle.ln_manager_laws.proofs.Answering.{obeyed_channel, stage_is}
 use Rattle.ln_manager_laws.proofs.Apart.{Other, found_in}
 use Rattle.ln_manager_laws.proofs.Calling.{become_few}
-use Rattle.ln_manager_laws.proofs.Hosted.{IsAlone}
-use Rattle.ln_manager_laws.proofs.Losing.{halted_apart, halted_keeps, halted_dated, halted_named, halted_few, halted_sound}
+use Rattle.ln_manager_laws.proofs.Losing.{halted_apart, halted_keeps, halted_dated, halted_named, halted_few}
+use Rattle.ln_manager_laws.proofs.Losing.{halted_sound}
 use Rattle.ln_manager_laws.proofs.Losing.{halts}
 use Rattle.ln_manager_laws.proofs.Hearing.{kin_as}
 use Rattle.ln_manager_laws.proofs.Obeying.{IsBidden, bids}
@@ -300,7 +301,8 @@ module _ {K : Type 0} (signer : K → Signer) (id_of : ℕ → List ℕ) (one : 
             leaves_new x now e g works (halted_sound signer id_of one m n h x left g numbers) apart
             (halted_keeps signer id_of one m n h x left g numbers)
             (Happened (may.HaltsDeciding c.0 e d o
-            (ap end_in (here_now id_of one x now m n g h.apart apart c.0 e (end_dropped e) works.end end c.1 refl).before
+            (ap end_in (here_now id_of one x now m n g h.apart apart c.0 e
+            (end_dropped e) works.end end c.1 refl).before
             ∙ works.end) (on_first x_in c.0 c.1 o is)
             (loses id_of one x now m n g h.apart apart c.0 e (end_dropped e) works.end end c.1 refl refl)
             (halts_now id_of one x now m n g h.apart apart c.0 e (end_dropped e) works.end end c.1 refl refl) htlcs))
@@ -454,15 +456,15 @@ module _ {K : Type 0} (signer : K → Signer) (id_of : ℕ → List ℕ) (one : 
           kin_gone : (o : Offer) → Kin hs (left_out (is_undecided ch d.event) (joined (htlc_of d o) hs))
           kin_gone o z m_in = elim (old_or_new (htlc_of d o) hs z
               (of_picked (λ q. not (is_undecided ch d.event q)) z (joined (htlc_of d o) hs) m_in)) [
-            | inl old ↦ (z, old, refl, refl)
-            | inr new ↦ absurd (
-                let out : is_undecided ch d.event z ≡ false =
-                left_passes (is_undecided ch d.event) z (joined (htlc_of d o) hs) m_in in
-                let hit : is_undecided ch d.event (htlc_of d o) ≡ true =
-                ap (λ q. (q && same ch d.channel) && true) (eq-eqb d.event d.event refl)
-                ∙ ap (λ q. q && true) (is_same ch d.channel (sym (ap (λ (w : Decided). w.channel) d_is))) in
-                let no : true ≡ false = sym hit ∙ ap (is_undecided ch d.event) new ∙ out in cc)
-          ]
+                | inl old ↦ (z, old, refl, refl)
+                | inr new ↦ absurd (
+                    let out : is_undecided ch d.event z ≡ false =
+                    left_passes (is_undecided ch d.event) z (joined (htlc_of d o) hs) m_in in
+                    let hit : is_undecided ch d.event (htlc_of d o) ≡ true =
+                    ap (λ q. (q && same ch d.channel) && true) (eq-eqb d.event d.event refl)
+                    ∙ ap (λ q. q && true) (is_same ch d.channel (sym (ap (λ (w : Decided). w.channel) d_is))) in
+                    let no : true ≡ false = sym hit ∙ ap (is_undecided ch d.event) new ∙ out in cc)
+              ]
 
           cases : (o : Option Offer) → offer_of told ≡ o → Leaves id_of m n
           cases None is =
@@ -478,7 +480,8 @@ module _ {K : Type 0} (signer : K → Signer) (id_of : ℕ → List ℕ) (one : 
               (on_first x_in b.number.0 b.number.1 o is)
               (seat_alike id_of one x seat m n g h.apart b.apart end (λ f is. b.hosted.halted))
               (now_is ∙ ap (λ c. left_out (is_undecided c d.event) (joined (htlc_of d o) hs)) b.number.1)))
-              (kin_as hs (left_out (is_undecided ch d.event) (joined (htlc_of d o) hs)) n.book.htlcs now_is (kin_gone o))
+              (kin_as hs (left_out (is_undecided ch d.event) (joined (htlc_of d o) hs)) n.book.htlcs now_is
+              (kin_gone o))
             where
               found_in_seat : (c : ℕ) → ch ≡ id_of c → seat_of (id_of c) m.seats ≡ Some x
               found_in_seat c at = ap (λ i. seat_of i m.seats) (sym at)

@@ -1,9 +1,9 @@
 -- What a book that is told of a lost connection, or of an event, leaves of a manager.
-use Rattle.std.proofs.Common.{◌≡◌, ◌⊎◌, inl, inr, ℕ, ◌<◌, ◌≤◌, List, [], ◌∷◌, ◌++◌, map, take, refl, sym, ap, ◌∙◌, subst, Bool}
-use Rattle.std.proofs.Common.{true, false, cond, not, Option, Some, None}
+use Rattle.std.proofs.Common.{◌≡◌, ◌⊎◌, inl, inr, ℕ, ◌<◌, ◌≤◌, List, [], ◌∷◌, map, take, refl, sym, ap, ◌∙◌, subst}
+use Rattle.std.proofs.Common.{Bool}
+use Rattle.std.proofs.Common.{true, false, not, Option, Some, None}
 use Rattle.std.specs.Prelude.{option_map}
 use Rattle.ln_keys.specs.Signer.{Signer}
-use Rattle.ln_log.specs.declared.outcome.Outcome.{Outcome}
 use Rattle.ln_log.specs.declared.update.Removal.{Removal}
 use Rattle.ln_log.specs.declared.update.Update.{Update}
 use Rattle.ln_log.specs.declared.update.Update.TheVariants as update
@@ -28,7 +28,7 @@ use Rattle.ln_book_tables.specs.Replay.{Table, replay, changed_first, left_out, 
 use Rattle.ln_book_tables.specs.Replay.{is_htlc, is_offered, is_finished, put_outgoing, put_incoming, with_incoming}
 use Rattle.ln_book.specs.Kept.{kept_ids, has_own_removal}
 use Rattle.ln_book.specs.Rebuild.{no_event}
-use Rattle.ln_payment_circuits.specs.Snapshot.{IsIn, is_gone, IsFitLog, key_at}
+use Rattle.ln_payment_circuits.specs.Snapshot.{IsIn, is_gone, IsFitLog}
 use Rattle.ln_payment_circuits.specs.Happens.{HasOwnIds, AreSame, outcome_of}
 use Rattle.ln_payment_circuits.specs.Happens as may
 use Rattle.ln_payment_circuits.proofs.Heard.{gone_among}
@@ -40,10 +40,9 @@ use Rattle.ln_manager_laws.specs.Manager.{Manager, end_in, halted_in, seat_of, s
 use Rattle.ln_manager_laws.specs.Steps.{Changes, others, Works, HasTold, heard, kept_by}
 use Rattle.ln_manager_laws.proofs.Apart.{found_in}
 use Rattle.ln_manager_laws.proofs.Losing.{IsDropped, dropped}
-use Rattle.ln_manager_laws.proofs.Seats.{IsSound}
 use Rattle.ln_manager_laws.proofs.Snapshots.{Apart, IsAt, loses, halted_same, here_now, seats_same}
 use Rattle.ln_manager_laws.proofs.Orderly.{EachSeat, was_there, is_there, apart_changed, HasNumber, IsDated, SaysNames}
-use Rattle.ln_manager_laws.proofs.Orderly.{IsOrderly, IsChannel, Gives, Happened, Same, Leaves, leaves_by, leaves_seats}
+use Rattle.ln_manager_laws.proofs.Orderly.{IsOrderly, IsChannel, Happened, Same, Leaves, leaves_by, leaves_seats}
 use Rattle.ln_manager_laws.proofs.Orderly.{Kin, kin_same, are_fit, HasEvents}
 use Rattle.ln_channel.specs.Ledger.{most_decided}
 

@@ -7,21 +7,19 @@ use Rattle.ln_channel.specs.declared.command.Command as declared
 use Rattle.ln_channel.specs.declared.command.Command.TheVariants as command
 use Rattle.ln_channel.specs.declared.machine.Stage.{Stage}
 use Rattle.ln_channel.specs.declared.machine.Stage.TheVariants as stage
-use Rattle.ln_channel.specs.End.{End}
 use Rattle.ln_channel.specs.Naming.{channel_of}
 use Rattle.ln_channel.specs.Record.{saved_end}
 use Rattle.ln_channel.specs.State.{State}
-use Rattle.ln_channel.specs.Step.{is_of_records, opened}
+use Rattle.ln_channel.specs.Step.{is_of_records}
 use Rattle.ln_store.specs.Store.{Records}
 use Rattle.ln_link.specs.Saving.{is_known}
 use Rattle.ln_payment_circuits.specs.Snapshot.{All}
 use Rattle.ln_payment_circuits.proofs.Calls.{IsPlainCommand}
-use Rattle.ln_payment_circuits.proofs.Lists.{either}
 use Rattle.ln_manager_laws.specs.Calls.{Seat, working, Call, SetKeys, NameFunding, Handle, Command, Connect}
 use Rattle.ln_manager_laws.specs.Calls.{DropConnection, Halt, Load, made, seated, called}
 use Rattle.ln_manager_laws.specs.Manager.{agreed_id, id_by, seat_id}
 use Rattle.ln_manager_laws.specs.Steps.{is_users, Knows, IsHosts}
-use Rattle.ln_manager_laws.proofs.Turns.{Becomes, Stays, Opens, Turns, Goes, IsReady, stays_there, message_goes}
+use Rattle.ln_manager_laws.proofs.Turns.{Becomes, Stays, Goes, IsReady, stays_there, message_goes}
 use Rattle.ln_manager_laws.proofs.Turns.{command_goes, connection_goes, naming_goes, IdGoes, Keeps, Loses, Agrees}
 use Rattle.ln_manager_laws.proofs.Seats.{IsSound, called_sound, made_halted}
 use Rattle.ln_manager_laws.proofs.Apart.{Other, ids}
@@ -130,7 +128,8 @@ module _ {K : Type 0} where
   never xs id o = absurd o
 
   module _ (signer : K → Signer) (x : Seat K) (s : IsSound x) where
-    made_so : (P : Type 0) (k : Call K) (O : List ℕ → Type 0) (xs : List (Seat K)) → ((id : List ℕ) → O id → IsAlone (Some id) xs)
+    made_so : (P : Type 0) (k : Call K) (O : List ℕ → Type 0) (xs : List (Seat K)) → ((id : List ℕ) → O id
+        → IsAlone (Some id) xs)
         → IsSound (seated x (made signer k x.link))
         → (IsReady x.link.stage → Goes P O x.link (made signer k x.link))
         → IsHosted P x (seated x (made signer k x.link)) xs
@@ -143,10 +142,12 @@ module _ {K : Type 0} where
         made_so (Unit {0}) (SetKeys keys) (λ id. ⊥) xs (never xs) (called_sound signer (SetKeys keys) x s)
         (λ ready. stays_there (Unit {0}) (λ id. ⊥) x.link (record x.link { keys = keys }) ready refl)
     hosted (NameFunding txid output) xs h =
-        made_so (Unit {0}) (NameFunding txid output) (λ id. ⊥) xs (never xs) (called_sound signer (NameFunding txid output) x s)
+        made_so (Unit {0}) (NameFunding txid output) (λ id. ⊥) xs (never xs) (called_sound signer
+        (NameFunding txid output) x s)
         (naming_goes (Unit {0}) (λ id. ⊥) txid output x.link)
     hosted (Handle known m) xs h =
-        made_so (Unit {0}) (Handle known m) (λ id. is_known (Some id) known ≡ false) xs (λ id new. new_alone known id new xs h)
+        made_so (Unit {0}) (Handle known m) (λ id. is_known (Some id) known ≡ false) xs
+        (λ id new. new_alone known id new xs h)
         (called_sound signer (Handle known m) x s)
         (λ ready. message_goes (Unit {0}) (λ id. is_known (Some id) known ≡ false) (signer x.link.keys) known m x.link
         ready (λ new id is. ap (λ o. is_known o known) (sym is) ∙ new))

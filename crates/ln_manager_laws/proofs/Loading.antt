@@ -1,30 +1,29 @@
 -- A manager that is loaded of all records of another one: its links come back, and its book is read off them.
-use Rattle.std.proofs.Common.{◌≡◌, ◌⊎◌, inl, inr, ℕ, ◌≤◌, List, [], ◌∷◌, ◌++◌, map, take, refl, sym, ap, ◌∙◌, subst}
-use Rattle.std.proofs.Common.{Bool, true, false, cond, ◌==◌, Option, Some, None}
+use Rattle.std.proofs.Common.{◌≡◌, inl, inr, ℕ, ◌≤◌, List, [], ◌∷◌, ◌++◌, take, refl, sym, ap, ◌∙◌, subst}
+use Rattle.std.proofs.Common.{true, false, ◌==◌, Option, Some, None}
 use Rattle.std.specs.Prelude.{option_map}
 use Rattle.std.proofs.lemmas.Bool.{eqb-true}
 use Rattle.ln_log.specs.declared.mark.Settlement.{Settlement}
 use Rattle.ln_channel.specs.End.{End, end_dropped}
 use Rattle.ln_channel.specs.Ledger.{most_decided}
 use Rattle.ln_book_tables.specs.declared.htlc.Htlc.{Htlc}
-use Rattle.ln_book.specs.Rebuild.{ChannelSnapshot, channel_snapshot_of, rebuilt_htlcs}
+use Rattle.ln_book.specs.Rebuild.{rebuilt_htlcs}
 use Rattle.ln_book.specs.Snapshots.{snapshot_by}
-use Rattle.ln_payment.specs.Rebuild.{everywhere}
 use Rattle.ln_payment_circuits.specs.Snapshot.{IsIn, All, AreDistinct, IsFit, snapshots}
 use Rattle.ln_payment_circuits.specs.Happens.{HasOwnIds, AreEnds}
 use Rattle.ln_payment_circuits.specs.Happens as may
-use Rattle.ln_payment_circuits.proofs.Entries.{is_same, same_is}
+use Rattle.ln_payment_circuits.proofs.Entries.{same_is}
 use Rattle.ln_payment_circuits.proofs.Fitting.{fit_dropped}
 use Rattle.ln_payment_circuits.proofs.Lists.{either}
 use Rattle.ln_payment_circuits.proofs.Naming.{AllName, names_dropped, names_widen}
 use Rattle.ln_payment_circuits.proofs.OutgoingLegs.{of_member}
 use Rattle.ln_payment_circuits.proofs.Reading.{IsReadSo, IsEndSo, read_so, results_so}
-use Rattle.ln_manager_laws.specs.Calls.{Seat, working}
+use Rattle.ln_manager_laws.specs.Calls.{Seat}
 use Rattle.ln_manager_laws.specs.Manager.{Manager, has_id, seat_of, end_in, halted_in, end_of, snapshot, seat_id}
 use Rattle.ln_manager_laws.specs.Manager.{id_by, agreed_id}
 use Rattle.ln_manager_laws.specs.Runs.{IsLoaded, AreOnce, AreOther, read_off}
 use Rattle.ln_manager_laws.proofs.Apart.{AreApart, Other, ids, found_in, found_is}
-use Rattle.ln_manager_laws.proofs.Seats.{IsSound, AreFitEnds, dropped_fit}
+use Rattle.ln_manager_laws.proofs.Seats.{IsSound, AreFitEnds}
 use Rattle.ln_manager_laws.proofs.Snapshots.{Apart}
 use Rattle.ln_manager_laws.proofs.Orderly.{EachSeat, IsChannel, HasNumber, IsOrderly, stays_orderly, Happened}
 use Rattle.ln_manager_laws.proofs.Orderly.{of_all, at_seat}
@@ -116,15 +115,18 @@ module _ {K : Type 0} where
     far : (a : Option (List ℕ)) (c : ℕ) (xs : List (Seat K)) → a ≡ Some (id_of c) → All (Other a) (ids xs)
         → (ps : List (ℕ × End)) → All (IsEndOf xs) ps → All (λ (p : ℕ × End). (p.0 == c) ≡ false) ps
     far a c xs is others [] h = tt
-    far a c xs is others (p ∷ ps) h = (elim (either (p.0 == c)) [
-      | inr isnt ↦ isnt
-      | inl number ↦ absurd (
-          let z = h.0.0 in
-          let other : Other (Some (id_of c)) (Some p.1.dance.channel) =
-          subst (λ o. Other o (Some p.1.dance.channel)) is
-          (subst (Other a) (ap (λ o. id_by o (agreed_id z.link)) h.0.2.0) (of_all a z xs others h.0.1)) in
-          other (sym (h.0.2.1 ∙ ap id_of (eqb-true p.0 c number))))
-    ], far a c xs is others ps h.1)
+    far a c xs is others (p ∷ ps) h = (
+      elim (either (p.0 == c)) [
+        | inr isnt ↦ isnt
+        | inl number ↦ absurd (
+            let z = h.0.0 in
+            let other : Other (Some (id_of c)) (Some p.1.dance.channel) =
+            subst (λ o. Other o (Some p.1.dance.channel)) is
+            (subst (Other a) (ap (λ o. id_by o (agreed_id z.link)) h.0.2.0) (of_all a z xs others h.0.1)) in
+            other (sym (h.0.2.1 ∙ ap id_of (eqb-true p.0 c number))))
+      ],
+      far a c xs is others ps h.1,
+    )
 
     distinct : (xs : List (Seat K)) (h : All (HasNumber id_of) xs) → AreApart (ids xs) → AreDistinct (ends_of xs h)
     distinct [] h apart = tt

@@ -1,6 +1,6 @@
 -- What a lost connection, a halt, a new channel and a setting make of a manager.
-use Rattle.std.proofs.Common.{◌≡◌, ◌⊎◌, inl, inr, ℕ, ◌≤◌, List, [], ◌∷◌, ◌++◌, map, refl, sym, ap, ◌∙◌, subst, Bool, true}
-use Rattle.std.proofs.Common.{false, cond, Option, Some, None, IfSome}
+use Rattle.std.proofs.Common.{◌≡◌, ◌⊎◌, inl, inr, ℕ, ◌≤◌, List, [], ◌∷◌, ◌++◌, refl, sym, ap, ◌∙◌, subst, Bool, true}
+use Rattle.std.proofs.Common.{false, cond, Option, Some, None}
 use Rattle.std.specs.Prelude.{option_map}
 use Rattle.ln_keys.specs.Signer.{Signer}
 use Rattle.ln_channel.specs.declared.machine.ConnectionState.TheVariants as connection
@@ -8,9 +8,7 @@ use Rattle.ln_channel.specs.declared.machine.Stage.{Stage}
 use Rattle.ln_channel.specs.declared.machine.Stage.TheVariants as stage
 use Rattle.ln_channel.specs.End.{End, end_dropped}
 use Rattle.ln_channel.specs.Naming.{channel_of}
-use Rattle.ln_channel.specs.Record.{saved_end}
 use Rattle.ln_channel.specs.State.{State, drops, cut, is_down}
-use Rattle.ln_book_tables.specs.declared.htlc.Htlc.{Htlc}
 use Rattle.ln_book_tables.specs.declared.entry.Entry.{Entry}
 use Rattle.ln_book_tables.specs.declared.entry.Entry.TheVariants as entry
 use Rattle.ln_book_tables.specs.Replay.{Table, replay}
@@ -18,9 +16,9 @@ use Rattle.ln_payment_circuits.specs.Snapshot.{IsIn, All}
 use Rattle.ln_payment_circuits.specs.Happens.{HasOwnIds}
 use Rattle.ln_payment_circuits.specs.Happens as may
 use Rattle.ln_payment_circuits.proofs.Naming.{AllName, names_dropped, names_widen}
-use Rattle.ln_manager_laws.specs.Calls.{Seat, working, begun_seat, Call, Halt, DropConnection, seated, called}
-use Rattle.ln_manager_laws.specs.Manager.{Manager, has_id, seat_of, end_in, halted_in, end_of, snapshot, seat_id, id_by}
-use Rattle.ln_manager_laws.specs.Steps.{Changes, others, Works, IsFirst, IsSetting}
+use Rattle.ln_manager_laws.specs.Calls.{Seat, working, begun_seat, Halt, DropConnection, called}
+use Rattle.ln_manager_laws.specs.Manager.{Manager, has_id, seat_of, end_in, halted_in, snapshot, seat_id, id_by}
+use Rattle.ln_manager_laws.specs.Steps.{Changes, others, IsFirst, IsSetting}
 use Rattle.ln_manager_laws.proofs.Turns.{IdGoes, Keeps, Loses, Agrees, cut_so}
 use Rattle.ln_manager_laws.proofs.Seats.{IsSound, called_sound, made_halted}
 use Rattle.ln_manager_laws.proofs.Apart.{AreApart, ids, Other, found_more}

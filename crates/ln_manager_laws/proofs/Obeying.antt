@@ -1,5 +1,5 @@
 -- What a command that the book gives about an HTLC leaves of a manager, whether its link does it or refuses it.
-use Rattle.std.proofs.Common.{◌≡◌, ◌⊎◌, inl, inr, ℕ, ◌≤◌, ◌<◌, List, [], ◌∷◌, ◌++◌, refl, sym, ap, ◌∙◌, subst, arith}
+use Rattle.std.proofs.Common.{◌≡◌, ◌⊎◌, inl, inr, ℕ, ◌≤◌, ◌<◌, List, [], ◌∷◌, refl, sym, ap, ◌∙◌, subst, arith}
 use Rattle.std.proofs.Common.{Bool, true, false, cond, ◌==◌, Option, Some, None, Result, Ok, Err, nat_lt}
 use Rattle.std.specs.List.{find}
 use Rattle.ln_refusals.specs.declared.refusal.Refusal.{Refusal}
@@ -8,15 +8,12 @@ use Rattle.ln_keys.specs.Signer.{Signer}
 use Rattle.ln_log.specs.declared.mark.Mark.{Mark}
 use Rattle.ln_log.specs.declared.mark.Mark.TheVariants as mark
 use Rattle.ln_log.specs.declared.update.Add.{Add}
-use Rattle.ln_log.specs.declared.update.Update.{Update}
 use Rattle.ln_log.specs.declared.update.Update.TheVariants as update
-use Rattle.ln_log.specs.Updates.{add_with}
 use Rattle.ln_channel.specs.declared.command.Command as declared
 use Rattle.ln_channel.specs.declared.command.Command.TheVariants as command
 use Rattle.ln_channel.specs.Base.{based, based_stage}
 use Rattle.ln_channel.specs.End.{End, Turn}
 use Rattle.ln_channel.specs.Record.{saved_end}
-use Rattle.ln_channel.specs.State.{State}
 use Rattle.ln_channel.specs.Step.{Done, commanded}
 use Rattle.ln_link.specs.Calls.{left_by}
 use Rattle.ln_book_tables.specs.declared.htlc.Htlc.{Htlc}
@@ -25,7 +22,8 @@ use Rattle.ln_book_tables.specs.declared.htlc.IncomingLeg.TheVariants as incomin
 use Rattle.ln_book_tables.specs.declared.entry.Out.{Out}
 use Rattle.ln_book_tables.specs.declared.entry.Out.TheVariants as out
 use Rattle.ln_book_tables.specs.declared.entry.Queued.{Queued}
-use Rattle.ln_book_tables.specs.Replay.{Table, replay, taken_by, refused_by, resumed_by, is_told, decide, is_htlc, is_over}
+use Rattle.ln_book_tables.specs.Replay.{Table, replay, taken_by, refused_by, resumed_by, is_told, decide, is_htlc}
+use Rattle.ln_book_tables.specs.Replay.{is_over}
 use Rattle.ln_book_tables.specs.Replay.{put_outgoing, put_incoming, put_mark, changed_first, is_held_in, is_resumed}
 use Rattle.ln_book_tables.specs.Replay.{is_undecided, with_outgoing, left_out, is_unsure, is_later}
 use Rattle.ln_book.specs.Answers.{command_subject, answer_to}
@@ -33,14 +31,14 @@ use Rattle.ln_book.specs.Commands.{Services, due, command_of, add_of, next_of}
 use Rattle.ln_book.specs.Commands as book
 use Rattle.ln_book.specs.Kept.{next_own_id}
 use Rattle.ln_book.specs.Rebuild.{no_event}
-use Rattle.ln_payment_circuits.specs.Snapshot.{IsIn, key_of}
+use Rattle.ln_payment_circuits.specs.Snapshot.{IsIn}
 use Rattle.ln_payment_circuits.specs.Happens.{HasOwnIds, Asks, obeyed}
 use Rattle.ln_payment_circuits.specs.Happens as may
 use Rattle.ln_payment_circuits.proofs.Covering.{obeyed_shift}
 use Rattle.ln_payment_circuits.proofs.Due.{IsDueBy, Forgets, Offers, Removes, due_by, forgets_so}
 use Rattle.ln_payment_circuits.proofs.Law.{forgotten_is}
 use Rattle.ln_payment_circuits.proofs.Naming.{AllName, Names, names_more, shift_decided}
-use Rattle.ln_payment_circuits.proofs.Proposed.{IsAdd, add_is, IsRemoved, removing_is}
+use Rattle.ln_payment_circuits.proofs.Proposed.{add_is, removing_is}
 use Rattle.ln_manager_laws.specs.Calls.{Seat, working, Command, called}
 use Rattle.ln_manager_laws.specs.Manager.{Manager, snapshot}
 use Rattle.ln_manager_laws.specs.Steps.{Changes, others, Works, obeying, done_or_refused}
@@ -49,7 +47,6 @@ use Rattle.ln_manager_laws.proofs.Answering.{obeyed_channel}
 use Rattle.ln_manager_laws.proofs.Calling.{become_keeps, become_few}
 use Rattle.ln_manager_laws.proofs.Hearing.{kin_changed, kin_left, kin_then, kin_as}
 use Rattle.ln_manager_laws.proofs.Hosted.{IsHosted, bidden}
-use Rattle.ln_manager_laws.proofs.Seats.{IsSound}
 use Rattle.ln_manager_laws.proofs.Snapshots.{Apart, goes, seat_same, seat_alike}
 use Rattle.ln_manager_laws.proofs.Orderly.{EachSeat, was_there, is_there, apart_changed, channels_stay, HasNumber}
 use Rattle.ln_manager_laws.proofs.Orderly.{IsDated, SaysNames, IsOrderly, IsChannel, KeepsEnd, Gives, Happened, Same}

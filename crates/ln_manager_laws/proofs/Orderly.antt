@@ -1,8 +1,7 @@
 -- What is kept of a manager, whatever it is called for: each end is fit, no two links have one id, each payment is one
 -- of the machine's, and the book knows each HTLC by a channel and by an event that was decided.
-use Rattle.std.proofs.Common.{◌≡◌, ◌⊎◌, inl, inr, ℕ, ◌<◌, ◌≤◌, List, [], ◌∷◌, ◌++◌, map, refl, sym, ap, ◌∙◌, subst, arith}
-use Rattle.std.proofs.Common.{Bool, true, false, cond, Option, Some, None, IfSome}
-use Rattle.ln_channel.specs.Base.{based}
+use Rattle.std.proofs.Common.{◌≡◌, ◌⊎◌, inl, inr, ℕ, ◌<◌, ◌≤◌, List, [], ◌∷◌, ◌++◌, refl, sym, ap, ◌∙◌, subst}
+use Rattle.std.proofs.Common.{true, Option, Some, None, IfSome}
 use Rattle.ln_channel.specs.End.{End}
 use Rattle.ln_channel.specs.Ledger.{most_decided}
 use Rattle.ln_book_tables.specs.declared.htlc.Htlc.{Htlc}

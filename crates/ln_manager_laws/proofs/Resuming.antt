@@ -1,6 +1,6 @@
 -- What leaves of a manager that what is held is decided.
 use Rattle.std.proofs.Common.{◌≡◌, ◌⊎◌, inl, inr, ℕ, ◌≤◌, ◌<◌, List, [], ◌∷◌, ◌++◌, refl, sym, ap, ◌∙◌, subst, arith}
-use Rattle.std.proofs.Common.{Bool, true, false, cond, ◌==◌, ◌&&◌, ◌||◌, Option, Some, None, Result, Ok, Err}
+use Rattle.std.proofs.Common.{Bool, true, false, cond, ◌&&◌, ◌||◌, Some, None, Result, Ok, Err}
 use Rattle.std.specs.List.{find, list_any}
 use Rattle.std.proofs.lemmas.Bool.{eq-eqb}
 use Rattle.ln_refusals.specs.declared.refusal.Refusal.{Refusal}
@@ -12,18 +12,16 @@ use Rattle.ln_hooks.specs.declared.verdict.Verdict.{Verdict}
 use Rattle.ln_channel.specs.declared.command.Command as declared
 use Rattle.ln_channel.specs.declared.command.Command.TheVariants as command
 use Rattle.ln_channel.specs.Base.{based, based_stage}
-use Rattle.ln_channel.specs.Commands.{ledgered}
 use Rattle.ln_channel.specs.End.{End}
 use Rattle.ln_channel.specs.Record.{saved_end}
 use Rattle.ln_channel.specs.Step.{Done, commanded}
 use Rattle.ln_link.specs.Calls.{left_by}
 use Rattle.ln_book_tables.specs.declared.htlc.Htlc.{Htlc}
 use Rattle.ln_book_tables.specs.declared.entry.Out.TheVariants as out
-use Rattle.ln_book_tables.specs.declared.entry.Queued.{Queued}
 use Rattle.ln_book_tables.specs.declared.entry.Resumed.{Resumed}
 use Rattle.ln_book_tables.specs.declared.entry.Entry.TheVariants as entry
 use Rattle.ln_book_tables.specs.Replay.{Table, same, replay, with_mark, with_resumed, resumed_of, resumed_by, taken_by}
-use Rattle.ln_book_tables.specs.Replay.{is_resumed, is_held_in, is_unsure, is_later, refused_by}
+use Rattle.ln_book_tables.specs.Replay.{is_resumed, is_held_in}
 use Rattle.ln_book.specs.Answers.{command_subject, answer_to}
 use Rattle.ln_book.specs.Commands.{Services}
 use Rattle.ln_book.specs.Kept.{next_own_id}

@@ -1,14 +1,12 @@
 -- A manager over every list of its steps, of batches that are saved, and of loads.
-use Rattle.std.proofs.Common.{◌≡◌, ℕ, List, [], ◌∷◌, refl, sym, ap, ◌∙◌, subst, Option, Some, None}
+use Rattle.std.proofs.Common.{ℕ, List, [], ◌∷◌, refl, sym, ◌∙◌, subst}
 use Rattle.ln_keys.specs.Signer.{Signer}
-use Rattle.ln_channel.specs.End.{End}
-use Rattle.ln_payment_circuits.specs.Snapshot.{Incoming, IsIn}
+use Rattle.ln_payment_circuits.specs.Snapshot.{Incoming}
 use Rattle.ln_payment_circuits.specs.Circuit.{PaysOnce, IsCovered}
 use Rattle.ln_payment_circuits.specs.Happens.{HasOwnIds}
 use Rattle.ln_payment_circuits.proofs.Covering.{covered_then}
 use Rattle.ln_payment_circuits.proofs.Law.{first_kept_is}
 use Rattle.ln_payment_circuits.proofs.Promise.{pays_once}
-use Rattle.ln_manager_laws.specs.Calls.{Seat}
 use Rattle.ln_manager_laws.specs.Manager.{Manager, no_channels, snapshot}
 use Rattle.ln_manager_laws.specs.Steps.{Step, AreSteps, last_step}
 use Rattle.ln_manager_laws.specs.Runs.{IsLoaded, Course, beginning, Goes, Steps, Closes, Saves, LoadsSaved, LoadsClosed}
@@ -148,5 +146,6 @@ module _ {K : Type 0} where
     covered_stays ts a ns steps = steps_cover (last_of beginning ts).now ns (reached ts a).now steps
 
     pub covered_saved : (ts : List (Course K)) → AreCourses signer beginning ts → (n : Manager K)
-        → IsLoaded (last_of beginning ts).saved n → EachSeat (HasNumber id_of) n → At (last_of beginning ts).saved → At n
+        → IsLoaded (last_of beginning ts).saved n → EachSeat (HasNumber id_of) n → At (last_of beginning ts).saved
+        → At n
     covered_saved ts a n l = loads_cover (last_of beginning ts).saved n l (reached ts a).saved

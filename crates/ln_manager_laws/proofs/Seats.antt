@@ -1,11 +1,9 @@
 -- What holds of a link and its end over every list of calls.
-use Rattle.std.proofs.Common.{◌≡◌, ℕ, List, [], ◌∷◌, refl, sym, ap, ◌∙◌, subst, Bool, true, false, cond, Option, Some}
+use Rattle.std.proofs.Common.{◌≡◌, ℕ, List, [], ◌∷◌, refl, sym, ◌∙◌, subst, Bool, true, false, cond, Option, Some}
 use Rattle.std.proofs.Common.{None, Result, Ok, Err, IfSome}
 use Rattle.std.specs.Prelude.{option_map}
 use Rattle.ln_refusals.specs.declared.refusal.Refusal.{Refusal}
 use Rattle.ln_keys.specs.Signer.{Signer}
-use Rattle.ln_channel.specs.declared.machine.Stage.{Stage}
-use Rattle.ln_channel.specs.Base.{based}
 use Rattle.ln_channel.specs.End.{End, end_dropped}
 use Rattle.ln_channel.specs.Record.{saved_end}
 use Rattle.ln_channel.specs.declared.config.Config.{Config}
@@ -13,7 +11,7 @@ use Rattle.ln_channel.specs.declared.config.OpenSpec.{OpenSpec}
 use Rattle.ln_channel.specs.declared.machine.ConnectionState.TheVariants as connection
 use Rattle.ln_channel.specs.declared.machine.Stage.TheVariants as stage
 use Rattle.ln_channel.specs.Failing.{fails}
-use Rattle.ln_channel.specs.State.{State, begun, drops, cut, is_down, refused, unless_failed, fails_by, failed}
+use Rattle.ln_channel.specs.State.{State, drops, cut, is_down, refused, unless_failed, fails_by, failed}
 use Rattle.ln_channel.specs.Step.{Done, commanded, connected}
 use Rattle.ln_link.specs.Calls.{left_by}
 use Rattle.ln_link.specs.Saving.{handled_beside}
@@ -22,7 +20,7 @@ use Rattle.ln_payment_circuits.proofs.Fitting.{fit_shift, fit_based, fit_dropped
 use Rattle.ln_manager_laws.specs.Calls.{Seat, working, begun_seat, Call, SetKeys, NameFunding, Handle, Command, Connect}
 use Rattle.ln_manager_laws.specs.Calls.{DropConnection, Halt, Load, connected_by, made, seated, loaded, called}
 use Rattle.ln_manager_laws.specs.Calls.{all_called}
-use Rattle.ln_manager_laws.proofs.Turns.{Becomes, Stays, Opens, Turns, IsReady, Goes, stays_there, message_goes}
+use Rattle.ln_manager_laws.proofs.Turns.{Becomes, Stays, Opens, Turns, IsReady, Goes, message_goes}
 use Rattle.ln_manager_laws.proofs.Turns.{command_goes, connection_goes, naming_goes, cut_so}
 
 abbrev pub AreFitEnds : Option End → Type 0

@@ -1,13 +1,11 @@
 -- What a change of one link of a manager makes of the snapshot in which the circuits of its payments are seen.
-use Rattle.std.proofs.Common.{◌≡◌, ◌⊎◌, inl, inr, ℕ, List, [], ◌∷◌, ◌++◌, refl, sym, ap, ◌∙◌, subst, Bool, true, false}
-use Rattle.std.proofs.Common.{cond, ◌==◌, ◌||◌, Option, Some, None}
+use Rattle.std.proofs.Common.{◌≡◌, ◌⊎◌, inl, inr, ℕ, List, refl, sym, ap, ◌∙◌, subst, true, false}
+use Rattle.std.proofs.Common.{◌==◌, ◌||◌, Option, Some, None}
 use Rattle.std.specs.Prelude.{option_map}
 use Rattle.std.proofs.lemmas.Bool.{eqb-true, eq-eqb}
 use Rattle.ln_channel.specs.End.{End, end_dropped}
-use Rattle.ln_book_tables.specs.declared.htlc.Htlc.{Htlc}
 use Rattle.ln_book_tables.specs.Replay.{same}
 use Rattle.ln_payment.specs.Moves.{is_of}
-use Rattle.ln_payment_circuits.specs.Snapshot.{Snapshot, IsIn}
 use Rattle.ln_payment_circuits.specs.Happens.{Goes, AreSame, Loses, HasOwnIds}
 use Rattle.ln_payment_circuits.proofs.Entries.{is_same, same_is}
 use Rattle.ln_payment_circuits.proofs.Lists.{either}

@@ -1,6 +1,6 @@
 -- Whatever step a manager takes, all is kept of it that its payments need.
 use Rattle.std.proofs.Common.{◌≡◌, ◌⊎◌, inl, inr, ℕ, List, [], ◌∷◌, ◌++◌, refl, sym, ap, ◌∙◌, subst, Bool, true, false}
-use Rattle.std.proofs.Common.{cond, Option, Some, None}
+use Rattle.std.proofs.Common.{cond, Some, None}
 use Rattle.std.specs.Prelude.{option_map}
 use Rattle.ln_keys.specs.Signer.{Signer}
 use Rattle.ln_channel.specs.declared.command.Command.TheVariants as command
@@ -13,10 +13,10 @@ use Rattle.ln_channel.specs.State.{State, cut, drops, is_down}
 use Rattle.ln_manager_laws.proofs.Turns.{cut_so}
 use Rattle.ln_payment_circuits.specs.Snapshot.{IsIn}
 use Rattle.ln_payment_circuits.specs.Happens.{HasOwnIds}
-use Rattle.ln_payment_circuits.proofs.Lists.{either}
 use Rattle.ln_manager_laws.specs.Calls.{Seat, working, begun_seat, Call, Halt, Command, DropConnection, called}
-use Rattle.ln_manager_laws.specs.Manager.{Manager, snapshot}
-use Rattle.ln_manager_laws.specs.Steps.{Step, Adds, Calls, Halts, LosesOpening, Disconnects, Hears, Sets, Obeys, Decides}
+use Rattle.ln_manager_laws.specs.Manager.{Manager}
+use Rattle.ln_manager_laws.specs.Steps.{Step, Adds, Calls, Halts, LosesOpening, Disconnects, Hears, Sets, Obeys}
+use Rattle.ln_manager_laws.specs.Steps.{Decides}
 use Rattle.ln_manager_laws.specs.Steps.{HaltsDeciding, Resumes, Changes, others, Works, IsFirst}
 use Rattle.ln_manager_laws.proofs.Seats.{IsSound, called_sound}
 use Rattle.ln_manager_laws.proofs.Hosted.{hosted, bidden}
@@ -26,8 +26,9 @@ use Rattle.ln_manager_laws.proofs.Hearing.{disconnects, hears}
 use Rattle.ln_manager_laws.proofs.Obeying.{obeys}
 use Rattle.ln_manager_laws.proofs.Deciding.{decides, halts_deciding}
 use Rattle.ln_manager_laws.proofs.Resuming.{resumes}
-use Rattle.ln_manager_laws.proofs.Orderly.{EachSeat, was_there, channels_stay, IsChannel, KeepsEnd, HasNumber, IsOrderly}
-use Rattle.ln_manager_laws.proofs.Orderly.{Leaves, stays_orderly, each_changed}
+use Rattle.ln_manager_laws.proofs.Orderly.{EachSeat, was_there, channels_stay, IsChannel, KeepsEnd, HasNumber}
+use Rattle.ln_manager_laws.proofs.Orderly.{IsOrderly}
+use Rattle.ln_manager_laws.proofs.Orderly.{Leaves, each_changed}
 
 module _ {K : Type 0} (signer : K → Signer) (m n : Manager K) where
   -- ---- a channel that there is stays

@@ -27,10 +27,10 @@ use Rattle.ln_channel.specs.Opening.{unless, first_fault, accept_fault, funder_e
 use Rattle.ln_channel.specs.Opening.{fundee_end, funding_message, open_fault, agreement, accept_message}
 use Rattle.ln_channel.specs.Record.{saved_end}
 use Rattle.ln_channel.specs.Resume.{resume_row}
-use Rattle.ln_channel.specs.State.{State, refused, unless_failed, fails_by, failed, lost, is_saved, cut, drops, is_down}
+use Rattle.ln_channel.specs.State.{State, refused, unless_failed, fails_by, failed, lost, cut, is_down}
 use Rattle.ln_channel.specs.State.{is_connected}
-use Rattle.ln_channel.specs.Step.{Done, turned, faulted, at_hand, stage_row, saved_at, awaiting_at, opening_at, replied}
-use Rattle.ln_channel.specs.Step.{is_passed_over, message_fault, line_fault, is_of_records, obeyed, obeyed_open, noted}
+use Rattle.ln_channel.specs.Step.{Done, turned, faulted, at_hand, stage_row, awaiting_at, opening_at, replied}
+use Rattle.ln_channel.specs.Step.{is_passed_over, message_fault, line_fault, is_of_records, obeyed, noted}
 use Rattle.ln_channel.specs.Step.{asked, handled, commanded, connected, connects, opened}
 use Rattle.ln_channel.specs.Taking.{taken}
 use Rattle.ln_store.specs.Store.{Records}

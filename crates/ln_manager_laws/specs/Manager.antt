@@ -1,5 +1,5 @@
 -- A manager of channels: their links, and the book of their payments.
-use Rattle.std.specs.Prelude.{◌≡◌, ℕ, List, [], Bool, true, false, Option, Some, None, if◌then◌else◌}
+use Rattle.std.specs.Prelude.{◌≡◌, ℕ, List, [], Bool, false, Option, Some, None, if◌then◌else◌}
 use Rattle.std.specs.List.{find}
 use Rattle.ln_channel.specs.End.{End}
 use Rattle.ln_channel.specs.Naming.{channel_of}

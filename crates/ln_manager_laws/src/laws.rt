@@ -25,12 +25,12 @@ pub fn ends_stay_fit<K: ChannelKeys>()
         → IfSome (all_called K.signer calls (begun_seat keys (stage.AwaitsOpen c))).end IsFit }
 {}
 
-/// A law of a manager of channels over every list of its steps, of batches of records that are saved, and of loads from
-/// what was saved last. Its peers may send anything, its links lose connections and halt for want of memory, and its
-/// users may command what removes no HTLC and forwards none. For each HTLC that came in, a signature covers one HTLC at
-/// most that forwards it, over all channels; and where it has a removal, even an unsigned one, that is what became of
-/// the one that went out, irrevocably committed (BOLT 2, "Forwarding HTLCs"). A fulfilment carries its preimage. Numbers
-/// stand for the ids of channels: any that have one each.
+/// A law of a manager of channels over every list of its steps, of batches of records that are saved, and of loads
+/// from what was saved last. Its peers may send anything, its links lose connections and halt for want of memory, and
+/// its users may command what removes no HTLC and forwards none. For each HTLC that came in, a signature covers one
+/// HTLC at most that forwards it, over all channels; and where it has a removal, even an unsigned one, that is what
+/// became of the one that went out, irrevocably committed (BOLT 2, "Forwarding HTLCs"). A fulfilment carries its
+/// preimage. Numbers stand for the ids of channels: any that have one each.
 pub fn one_payment_out<K: ChannelKeys>()
     ensures { (courses : List (Course K)) (id_of : ℕ → List ℕ) (h : Incoming)
         → AreCourses K.signer beginning courses → HasOwnIds id_of → AreNumbered id_of (last_of beginning courses).now
