@@ -16,9 +16,9 @@
  *
  * Saved before said. What calls make is handed out in one line: lnl_next shows its head, lnl_done takes it off. A
  * record, where there is one, stands before all else, and the newest stands for all that weren't taken off. It is saved
- * and synced before lnl_done: nothing that it covers can be sent before. Between an lnl_next and its lnl_done there is no
- * other call: a message or a command that comes in waits. For a record lnl_done is 40 after one, and lnl_next shows the
- * newer record.
+ * and synced before lnl_done: nothing that it covers can be sent before. lnl_done stands for what lnl_next showed last:
+ * where lnl_message, lnl_command, lnl_connect, lnl_disconnect or lnl_done came between, it is 40 and nothing has changed;
+ * lnl_next then shows what stands first now. A call that answers LNL_ASKS or LNL_ANSWER doesn't come between.
  *
  * What a host keeps. With each record it saves, in the same transaction,
  *   - the whole item after its kind: lnl_load takes just these bytes;
@@ -118,7 +118,7 @@ int32_t lnl_message(lnl_link *link, const uint8_t *message, size_t len, const ui
  * Where it is refused (40 to 49, 62, or what the channel has failed by) nothing has changed. */
 int32_t lnl_command(lnl_link *link, const uint8_t *command, size_t len);
 
-/* The head of the line; nothing changes. *n = 0: the line is empty. Else a kind u8, and
+/* Shows the head of the line, for lnl_done; by LNL_SHORT it isn't shown. *n = 0: the line is empty. Else a kind u8, and
  *   1 Record  channel 32, optional (number u64, signature 64, list signature 64): the peer's over the own commitment,
  *             list (number u64, secret 32): the peer's since the record before, sized8 record
  *             save all that follows the kind, sync, then lnl_done without an answer
@@ -139,7 +139,8 @@ int32_t lnl_command(lnl_link *link, const uint8_t *command, size_t len);
 int32_t lnl_next(lnl_link *link, uint8_t *out, size_t room, size_t *n);
 
 /* Takes the head of the line off: n = 0 but for a blank, which it fills; the message then stands there as Send.
- * 40 where the line is empty, or begins with a record that lnl_next didn't show since the last call. */
+ * 40 where the line is empty, or lnl_next didn't show its head since the last call. By an answer but 0 nothing has
+ * changed. */
 int32_t lnl_done(lnl_link *link, const uint8_t *answer, size_t n);
 
 /* A summary: connection u8 (0 down, 1 awaits channel_reestablish, 2 connected), halted u8, optional channel 32,

@@ -75,13 +75,13 @@ class Link:
         self._obey(library.lnl_command, data, len(data))
 
     def next(self) -> Item | None:
-        """The head of the line, which stays there; None where it is empty."""
+        """Shows the head of the line, which stays there; None where it is empty."""
         data = self._fetch(library.lnl_next)
         return Item.from_bytes(data) if data else None
 
     def done(self, answer: bytes = b"") -> None:
-        """Takes the head of the line off, or fills it where it is a blank. 40: the line is empty, or the record that
-        stands first isn't the one that `next` showed, as another call came between.
+        """Takes the head of the line off, or fills it where it is a blank. 40: the line is empty, or `next` didn't show
+        its head since the last call.
         """
         self._obey(library.lnl_done, answer, len(answer))
 

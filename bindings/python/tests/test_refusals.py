@@ -30,6 +30,7 @@ from lnlink import (
     Record,
     Refused,
     Resume,
+    Send,
     Shutdown,
     Sign,
     SignaturesBlank,
@@ -123,6 +124,42 @@ class RefusalTest(unittest.TestCase):
         self.assertIsInstance(link.next(), BlankItem)
         wire.post(wire.a, wire.a.link.flush())
         wire.settle()
+
+    def test_40_a_blank_and_a_message_that_were_not_shown(self) -> None:
+        wire = self.wire.opened()
+        wire.command(wire.a, add())
+        link = wire.a.link.link
+        link.command(Sign())
+        record = link.next()
+        assert isinstance(record, Record)
+        wire.a.store.save(record)
+        link.done()
+        blank = link.next()
+        assert isinstance(blank, BlankItem)
+        filling = wire.a.link._fill(blank.blank)
+        self.refused(41, link.command, Sign())
+        self.refused(40, link.done, filling)
+        self.assertEqual(link.next(), blank)
+        self.refused(81, link.done, filling[:-1])
+        link.done(filling)
+        self.refused(40, link.done)
+        self.assertIsInstance(link.next(), Send)
+        link.disconnect()
+        self.refused(40, link.done)
+        self.assertIsNone(link.next())
+        self.refused(40, link.done)
+
+    def test_40_what_a_short_buffer_did_not_show(self) -> None:
+        wire = self.wire.opened()
+        wire.command(wire.a, add())
+        link = wire.a.link.link
+        link.command(Sign())
+        count = c_size_t()
+        self.refused(82, obey, library.lnl_next, byref(link._handle), None, 0, byref(count))
+        self.refused(40, link.done)
+        self.assertIsInstance(link.next(), Record)
+        self.refused(82, obey, library.lnl_next, byref(link._handle), None, 0, byref(count))
+        link.done()
 
     def test_82_a_buffer_that_is_too_short(self) -> None:
         wire = self.wire.opened()

@@ -111,7 +111,7 @@ impl Link {
         self.handle.command(&command.to_bytes())
     }
 
-    /// The head of the line, which stays there; none where it is empty.
+    /// Shows the head of the line, which stays there; none where it is empty.
     ///
     /// # Errors
     ///
@@ -128,8 +128,8 @@ impl Link {
     ///
     /// # Errors
     ///
-    /// `NotReady`: the line is empty, or the record that stands first isn't the one that `next` showed, as another call
-    /// came between; `Answer`: a filling of another length, or for what is no blank.
+    /// `NotReady`: the line is empty, or `next` didn't show its head since the last call; `Answer`: a filling of another
+    /// length, or for what is no blank.
     pub fn done(&mut self, answer: &[u8]) -> Result<(), Refused> {
         self.handle.done(answer)
     }

@@ -6,11 +6,11 @@ use Rattle.std.proofs.lemmas.List.{append-nil}
 use Rattle.ln_host.specs.declared.blank.Blank.{Blank}
 use Rattle.ln_host.specs.declared.line.Outgoing.{Outgoing}
 use Rattle.ln_host.specs.declared.line.Told.{Told}
-use Rattle.ln_host.specs.Line.{Waiting, without_head, without_first, first_filled}
+use Rattle.ln_host.specs.Line.{without_head}
 use Rattle.ln_host.specs.Calls.{Call, Saves, Sends, Tells, Fills, Takes, Loses, Covered, Gone, Past, begun}
-use Rattle.ln_host.specs.Calls.{leaves, hears, takes_first, takes, happens, run, told_by, AreSaved, AreRising}
+use Rattle.ln_host.specs.Calls.{leaves, takes, happens, run, told_by, AreSaved, AreRising}
 
-abbrev past : Bool → List Outgoing → List Told → ℕ → ℕ → ℕ → List Covered → List Gone → List Told → Past
+abbrev pub past : Bool → List Outgoing → List Told → ℕ → ℕ → ℕ → List Covered → List Gone → List Told → Past
 past b ms ts r s n ws gs h = record {
   line = record { record_waits = b; messages = ms; told = ts };
   records = r;

@@ -1,2 +1,9 @@
 pub mod Asked
 pub mod Calls
+pub mod Courses
+pub mod Heads
+pub mod Lines
+pub mod Outputs
+pub mod Passing
+pub mod RecordsFirst
+pub mod Loading

@@ -1,5 +1,5 @@
 -- A host's answer to the question about a message.
-use Rattle.std.specs.Prelude.{ℕ, List, [], ◌∷◌, length, replicate, Bool, true, false, ◌==◌, Option, Some, None}
+use Rattle.std.specs.Prelude.{ℕ, List, [], ◌∷◌, length, replicate, true, false, ◌==◌, Option, Some, None}
 use Rattle.std.specs.Prelude.{Result, Ok, Err, if◌then◌else◌}
 use Rattle.ln_refusals.specs.Refusal.{refusal_number}
 use Rattle.ln_host.specs.declared.answer.Answer.{Answer}

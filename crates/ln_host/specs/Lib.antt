@@ -6,5 +6,8 @@ pub mod Answer
 pub mod Seen
 pub mod Greeting
 pub mod Hosted
+pub mod Hearing
+pub mod Doing
 pub mod Calls
 pub mod Seats
+pub mod Course

@@ -1,6 +1,6 @@
 -- What a message has that the chain may need, and no record has: the peer's signatures over the own commitment, and its
 -- secrets (BOLT 5).
-use Rattle.std.specs.Prelude.{ℕ, List, [], ◌∷◌, Option, Some, None}
+use Rattle.std.specs.Prelude.{ℕ, List, [], ◌∷◌, Option, Some}
 use Rattle.ln_host.specs.declared.record.PeerSecret.{PeerSecret}
 use Rattle.ln_msgs.specs.declared.messages.message.Message.{Message}
 use Rattle.ln_msgs.specs.declared.messages.message.Message.TheVariants as message

@@ -1,22 +1,28 @@
 //! A link whose host brings keys, disk and sockets.
 
-ghost use Rattle.std.specs.Prelude.{◌≡◌, ◌++◌, true, false, IfOk, IfErr, OnOk, OnErr};
-ghost use Rattle.ln_host.specs.Seen.{secret_of};
+ghost use Rattle.std.specs.Prelude.{◌≡◌, ◌⊎◌, ◌↔◌, ◌++◌, [], true, IsTrue, Some, None, IfOk, IfErr, OnOk, OnErr};
 ghost use Rattle.ln_refusals.specs.declared.refusal.Refusal.TheVariants as refusal;
-ghost use Rattle.ln_channel.specs.Asking.{with_named, naming_answer};
-ghost use Rattle.ln_channel.specs.State.{State, StandsFor, halts, drops};
-ghost use Rattle.ln_channel.specs.Step.{connected};
-ghost use Rattle.ln_link.specs.Saving.{reached};
-ghost use Rattle.ln_host.specs.Keys.{host_signer};
-ghost use Rattle.ln_host.specs.Line.{lost, IsHead};
-ghost use Rattle.ln_host.specs.declared.keys.HostKeys.{HostKeys};
+ghost use Rattle.ln_channel.specs.declared.machine.Stage.TheVariants as stage;
+ghost use Rattle.ln_channel.specs.Asking.{naming_answer};
+ghost use Rattle.ln_channel.specs.State.{State, StandsFor, kept_channel};
+ghost use Rattle.ln_msgs.specs.Messages.Reply.{reply_to};
+ghost use Rattle.ln_host.specs.declared.answer.HostRefusal.TheVariants as host;
 ghost use Rattle.ln_host.specs.Answer.{keys_told};
-ghost use Rattle.ln_host.specs.Hosted.{with_output, with_outputs, waits_of, IsQueued, Answers};
-ghost use Rattle.ln_host.specs.Seats.{seat};
+ghost use Rattle.ln_host.specs.Blank.{filling_at};
+ghost use Rattle.ln_host.specs.Doing.{taken_off, record_saved, filled_first, unanswered, done_by, IsDone};
+ghost use Rattle.ln_host.specs.Greeting.{channel_of};
+ghost use Rattle.ln_host.specs.Hearing.{known, told, kept, reply_due, Replies, IsTaken};
+ghost use Rattle.ln_host.specs.Hearing.{TakesUnlessMemory, IsHeard};
+ghost use Rattle.ln_host.specs.Hosted.{keys_with, hosted, new_hosted, waits, host_record, with_output, with_outputs};
+ghost use Rattle.ln_host.specs.Hosted.{WaitInPart, handed, halted, Hands, IsConnected, IsObeyed, disconnected, funded};
+ghost use Rattle.ln_host.specs.Hosted.{record_of, shown, with_events, with_link, with_pending};
+ghost use Rattle.ln_host.specs.Line.{IsHead};
+ghost use Rattle.ln_host.specs.Seats.{seat, ComesBack, IsRefusedRecord};
+ghost use Rattle.ln_host.specs.Seen.{secret_of};
 
 use crate::answer::{Answer, HostRefusal, answer_of};
-use crate::blank::blank_of;
-use crate::filling::{filling_at, put};
+use crate::blank::{Blank, blank_of};
+use crate::filling::{Filling, filling_at, put};
 use crate::greeting::channel_of;
 use crate::keys::HostKeys;
 use crate::line::{Head, Line, Outgoing, Told};
@@ -25,6 +31,7 @@ use crate::record::{HeldSignatures, HostRecord, PeerSecret};
 use crate::seen::{Seen, copied, seen_in};
 use ln_bytes::Bytes;
 use ln_channel::{ChannelMachine, Command, FitConfig, FitSpec, Output};
+use ln_hooks::ChannelEvent;
 use ln_link::Link;
 use ln_msgs::Message;
 use ln_refusals::Refusal;
@@ -62,7 +69,9 @@ fn secrets_with(
 }
 
 // Keys of a host that has told nothing yet.
-fn keys_with(first_point: [u8; 33]) -> HostKeys {
+fn keys_with(first_point: [u8; 33]) -> HostKeys
+    ensures { result ≡ keys_with first_point }
+{
     HostKeys {
         first_point,
         is_right: false,
@@ -82,7 +91,9 @@ fn keys_told(first_point: [u8; 33], answer: Answer) -> HostKeys
     }
 }
 
-fn hosted(alloc: Global, link: Link<HostKeys>, first_point: [u8; 33]) -> HostLink {
+fn hosted(alloc: Global, link: Link<HostKeys>, first_point: [u8; 33]) -> HostLink
+    ensures { seat result ≡ hosted first_point link }
+{
     HostLink {
         link,
         first_point,
@@ -104,6 +115,7 @@ fn queue_output(
 ) -> Result<(), Refusal>
     ensures put { (l : State HostKeys) → StandsFor machine.now l
         → OnOk result (line.new ≡ with_output l.stage output line.old) }
+    ensures changes_nothing_if_refused { OnErr result (line.new ≡ line.old) }
     ensures fails_for_memory_alone { IfErr result (λ r. r ≡ refusal.Memory) }
 {
     match output {
@@ -126,6 +138,8 @@ fn queue_outputs(
 ) -> Result<(), Refusal>
     ensures put { (l : State HostKeys) → StandsFor machine.now l
         → OnOk result (line.new ≡ with_outputs l.stage outputs.items line.old) }
+    ensures put_in_part { (l : State HostKeys) → StandsFor machine.now l
+        → OnErr result (WaitInPart l.stage outputs.items line.old line.new) }
     ensures fails_for_memory_alone { IfErr result (λ r. r ≡ refusal.Memory) }
 {
     for output in outputs {
@@ -134,10 +148,37 @@ fn queue_outputs(
     Ok(())
 }
 
+// Events wait after what is told.
+fn put_events(line: &mut Line, events: Vec<(u64, ChannelEvent)>) -> Result<(), Refusal>
+    ensures told { OnOk result (line.new ≡ with_events events.items line.old) }
+    ensures fails_for_memory_alone { IfErr result (λ r. r ≡ refusal.Memory) }
+{
+    for pair in events {
+        let (number, event) = pair;
+        line.put_told(Told::Event(number, event))?;
+    }
+    Ok(())
+}
+
+// What a host gives for a blank. Errors: 81 where it is none of it, 60.
+fn filling_of(alloc: Global, blank: &Blank, bytes: &[u8]) -> Result<Filling, HostRefusal>
+    ensures filling { IfOk result (λ f. filling_at blank.now bytes.now ≡ Some f) }
+    ensures refused { IfErr result (λ e. (e ≡ host.Refused refusal.Memory)
+        ⊎ ((e ≡ host.Answer) × (filling_at blank.now bytes.now ≡ None))) }
+{
+    match filling_at(alloc, blank, bytes) {
+        Ok(filling) => Ok(filling),
+        Err(Refusal::Memory) => Err(HostRefusal::Refused(Refusal::Memory)),
+        Err(_) => Err(HostRefusal::Answer),
+    }
+}
+
 impl HostLink {
     /// A new link of a funder, which opens a channel by this spec; its funding may be named later. `first_point` is the
     /// own per commitment point of commitment 0. Takes no memory.
-    pub fn funder(alloc: Global, spec: FitSpec, first_point: [u8; 33]) -> HostLink {
+    pub fn funder(alloc: Global, spec: FitSpec, first_point: [u8; 33]) -> HostLink
+        ensures { seat result ≡ new_hosted first_point (stage.AwaitsAccept spec) }
+    {
         hosted(
             alloc,
             Link::funder(keys_with(first_point), spec),
@@ -146,7 +187,9 @@ impl HostLink {
     }
 
     /// A new link of a fundee, which takes a channel with this config. Takes no memory.
-    pub fn fundee(alloc: Global, config: FitConfig, first_point: [u8; 33]) -> HostLink {
+    pub fn fundee(alloc: Global, config: FitConfig, first_point: [u8; 33]) -> HostLink
+        ensures { seat result ≡ new_hosted first_point (stage.AwaitsOpen config) }
+    {
         hosted(
             alloc,
             Link::fundee(keys_with(first_point), config),
@@ -157,7 +200,10 @@ impl HostLink {
     /// The link that comes back from what its host saved. The events that it hasn't decided are told again.
     ///
     /// Errors: those of `Link::from_record` (70, 71), 70 where the record is another channel's, and 60.
-    pub fn load(alloc: Global, saved: HostRecord) -> Result<HostLink, Refusal> {
+    pub fn load(alloc: Global, saved: HostRecord) -> Result<HostLink, Refusal>
+        ensures comes_back { IfOk result (λ h. ComesBack saved (seat h)) }
+        ensures refuses { IfErr result (λ e. IsRefusedRecord saved e) }
+    {
         let HostRecord {
             channel,
             signatures,
@@ -176,19 +222,22 @@ impl HostLink {
     }
 
     // Whether it is an end of this channel.
-    fn is_of(&self, channel: &[u8; 32]) -> bool {
+    fn is_of(&self, channel: &[u8; 32]) -> bool
+        ensures { IsTrue result ↔ (kept_channel self.now.link.stage ≡ Some channel.now) }
+    {
         match self.machine().saved() {
             None => false,
             Some(end) => end.id() == *channel,
         }
     }
 
-    // The events that aren't decided.
-    fn tell_pending(&mut self, alloc: Global) -> Result<(), Refusal> {
-        for (number, event) in self.link.pending_events(alloc)? {
-            self.line.put_told(Told::Event(number, event))?;
-        }
-        Ok(())
+    // The events that aren't decided wait after what is told.
+    fn tell_pending(&mut self, alloc: Global) -> Result<(), Refusal>
+        ensures told { OnOk result (seat self.new ≡ with_pending (seat self.old)) }
+        ensures fails_for_memory_alone { IfErr result (λ r. r ≡ refusal.Memory) }
+    {
+        let pending = self.link.pending_events(alloc)?;
+        put_events(&mut self.line, pending)
     }
 
     /// What the link is, to be looked at. Takes no memory.
@@ -200,17 +249,15 @@ impl HostLink {
 
     /// Names the funding, until `accept_channel` is taken: `Link::name_funding`. Takes no memory.
     pub fn name_funding(&mut self, txid: [u8; 32], output: u16) -> Result<(), Refusal>
-        ensures answer { (l : State HostKeys) → StandsFor self.old.link l → result ≡ naming_answer l.stage }
-        ensures state { (l : State HostKeys) → StandsFor self.old.link l
-            → StandsFor self.new.link (record l { stage = with_named txid output l.stage }) }
-        ensures same_line { self.new.line ≡ self.old.line }
+        ensures answer { result ≡ naming_answer self.old.link.stage }
+        ensures names { seat self.new ≡ funded txid output (seat self.old) }
     {
         self.link.name_funding(txid, output)
     }
 
     // Whether the record isn't what the host has taken.
     fn is_unsaved(&self) -> bool
-        ensures { result ≡ waits_of self.now.link self.now.store self.now.taken }
+        ensures { result ≡ waits (seat self.now) }
     {
         match self.machine().saved() {
             None => false,
@@ -224,17 +271,20 @@ impl HostLink {
         }
     }
 
-    // What a call hands out waits; the link halts where there is no memory for it. A record has to be shown anew.
-    fn queue(&mut self, alloc: Global, outputs: Vec<Output>) -> Result<(), Refusal>
-        ensures queued { OnOk result (IsQueued outputs.items self.old.link (seat self.old) (seat self.new)) }
-        ensures same_store { self.new.store ≡ self.old.store }
-        ensures shown_anew { self.new.is_shown ≡ false }
-        ensures halts { OnErr result (self.new.link ≡ halts self.old.link) }
-        ensures fails_for_memory_alone { IfErr result (λ r. r ≡ refusal.Memory) }
+    // The record waits where the host hasn't taken it. What stands first has to be shown anew.
+    fn put_record(&mut self)
+        ensures { seat self.new ≡ handed [] (seat self.old) }
     {
         let unsaved = self.is_unsaved();
         self.line.put_record(unsaved);
         self.is_shown = false;
+    }
+
+    // What a call hands out waits after the record; the link halts where there is no memory for it.
+    fn queue(&mut self, alloc: Global, outputs: Vec<Output>) -> Result<(), Refusal>
+        ensures hands { Hands outputs.items (seat self.old) result (seat self.new) }
+    {
+        self.put_record();
         match queue_outputs(alloc, self.link.channel_machine(), &mut self.line, outputs) {
             Ok(()) => Ok(()),
             Err(refusal) => {
@@ -244,39 +294,38 @@ impl HostLink {
         }
     }
 
-    // A call was refused; its channel may have failed by it. A record has to be shown anew.
-    fn refused(&mut self, refusal: Refusal) -> Refusal
-        ensures shown_anew { self.new.is_shown ≡ false }
-    {
-        let unsaved = self.is_unsaved();
-        self.line.put_record(unsaved);
-        self.is_shown = false;
-        refusal
-    }
-
     /// There is a connection: `Link::connect`.
     pub fn connect(&mut self, alloc: Global) -> Result<(), Refusal>
-        ensures connects { (l : State HostKeys) → StandsFor self.old.link l → OnOk result
-            (Answers (connected (host_signer l.keys) l) (λ d. reached d l) (seat self.old) (seat self.new)) }
+        ensures connects { IsConnected result (seat self.old) (seat self.new) }
     {
-        let outputs = self.link.connect(alloc)?;
-        self.queue(alloc, outputs)
+        match self.link.connect(alloc) {
+            Ok(outputs) => self.queue(alloc, outputs),
+            Err(refusal) => {
+                self.put_record();
+                Err(refusal)
+            }
+        }
     }
 
     /// The connection is lost, and the messages that wait for it. Takes no memory.
     pub fn disconnect(&mut self)
-        ensures link { (l : State HostKeys) → StandsFor self.old.link l → StandsFor self.new.link (drops l) }
-        ensures line { self.new.line ≡ lost self.old.line }
+        ensures { seat self.new ≡ disconnected (seat self.old) }
     {
         self.link.drop_connection();
         self.line.lose();
+        self.is_shown = false;
     }
 
     /// A command: `Link::command`.
-    pub fn command(&mut self, alloc: Global, command: Command) -> Result<(), Refusal> {
+    pub fn command(&mut self, alloc: Global, command: Command) -> Result<(), Refusal>
+        ensures obeys { IsObeyed command result (seat self.old) (seat self.new) }
+    {
         match self.link.command(alloc, &mut self.store, command) {
             Ok(outputs) => self.queue(alloc, outputs),
-            Err(refusal) => Err(self.refused(refusal)),
+            Err(refusal) => {
+                self.put_record();
+                Err(refusal)
+            }
         }
     }
 
@@ -289,60 +338,70 @@ impl HostLink {
         alloc: Global,
         message: Message,
         answer: &[u8],
-    ) -> Result<(), HostRefusal> {
+    ) -> Result<(), HostRefusal>
+        ensures hears { IsHeard message answer.now result (seat self.old) (seat self.new) }
+    {
         let asked = question_about(alloc, self.link.channel_machine(), &message)?;
         let answer = answer_of(&asked, answer)?;
         let seen = seen_in(alloc, &asked, &message)?;
         drop(asked);
-        let channel = channel_of(&message);
         match self.take(alloc, message, answer, seen) {
             Ok(()) => Ok(()),
-            Err(refusal) => Err(HostRefusal::Refused(self.reply(alloc, refusal, channel))),
+            Err(refusal) => Err(HostRefusal::Refused(refusal)),
         }
     }
 
-    // How the peer is told that its message was refused (BOLT 1, "The `error` and `warning` Messages").
-    fn reply(&mut self, alloc: Global, refusal: Refusal, channel: Option<[u8; 32]>) -> Refusal {
-        let Some(channel) = channel else {
-            return refusal;
-        };
-        if self.machine().connection().is_down() {
-            return refusal;
-        }
-        match self.put_reply(alloc, refusal, &channel) {
-            Ok(()) => refusal,
-            Err(memory) => {
-                self.link.halt();
-                memory
-            }
-        }
-    }
-
-    fn put_reply(
-        &mut self,
-        alloc: Global,
-        refusal: Refusal,
-        channel: &[u8; 32],
-    ) -> Result<(), Refusal> {
-        match Message::reply_to(alloc, refusal, channel)? {
-            None => Ok(()),
-            Some(message) => self.line.put_message(Outgoing {
-                message,
-                blank: None,
-            }),
-        }
-    }
-
+    // The link takes a message, or there is no memory for what has to be there before.
     fn take(
         &mut self,
         alloc: Global,
         message: Message,
         answer: Answer,
         seen: Seen,
-    ) -> Result<(), Refusal> {
+    ) -> Result<(), Refusal>
+        ensures takes { TakesUnlessMemory message seen answer result (seat self.old) (seat self.new) }
+    {
         let secrets = secrets_with(alloc, self.secrets.as_slice(), &seen)?;
-        self.know(alloc, answer)?;
+        self.tell(alloc, answer)?;
+        self.hear(alloc, message, seen, secrets)
+    }
+
+    // The link has keys that were told this, and knows the channel that the host knows.
+    fn tell(&mut self, alloc: Global, answer: Answer) -> Result<(), Refusal>
+        ensures told { OnOk result (seat self.new ≡ told answer (seat self.old)) }
+        ensures changes_nothing_if_refused { OnErr result (seat self.new ≡ seat self.old) }
+        ensures fails_for_memory_alone { IfErr result (λ r. r ≡ refusal.Memory) }
+    {
+        self.know(alloc, answer.known)?;
         self.link.set_keys(keys_told(self.first_point, answer));
+        Ok(())
+    }
+
+    // A channel that the host has a record of has one here, too, which says nothing.
+    fn know(&mut self, alloc: Global, channel: Option<[u8; 32]>) -> Result<(), Refusal>
+        ensures known { OnOk result
+            (seat self.new ≡ with_link self.old.link (known channel self.old.store) (seat self.old)) }
+        ensures changes_nothing_if_refused { OnErr result (seat self.new ≡ seat self.old) }
+        ensures fails_for_memory_alone { IfErr result (λ r. r ≡ refusal.Memory) }
+    {
+        match channel {
+            Some(channel) => self.store.save(alloc, &channel, &[]),
+            None => Ok(()),
+        }
+    }
+
+    // The link takes a message, of which this is kept.
+    fn hear(
+        &mut self,
+        alloc: Global,
+        message: Message,
+        seen: Seen,
+        secrets: Vec<PeerSecret>,
+    ) -> Result<(), Refusal>
+        requires { secrets.items ≡ self.old.secrets.items ++ secret_of seen }
+        ensures takes { IsTaken message seen result (seat self.old) (seat self.new) }
+    {
+        let channel = channel_of(&message);
         match self.link.handle(alloc, &mut self.store, message) {
             Ok(outputs) => {
                 self.keep(seen, secrets);
@@ -351,25 +410,65 @@ impl HostLink {
             Err(refusal) => {
                 drop(seen);
                 drop(secrets);
-                Err(self.refused(refusal))
+                self.put_record();
+                Err(self.reply(alloc, refusal, channel))
             }
         }
     }
 
     // What a taken message had that the chain may need.
-    fn keep(&mut self, seen: Seen, secrets: Vec<PeerSecret>) {
+    fn keep(&mut self, seen: Seen, secrets: Vec<PeerSecret>)
+        requires { secrets.items ≡ self.old.secrets.items ++ secret_of seen }
+        ensures { seat self.new ≡ kept seen (seat self.old) }
+    {
         put(&mut self.secrets, secrets);
-        if let Seen::Signatures(signatures) = seen {
-            put(&mut self.signatures, Some(signatures));
+        match seen {
+            Seen::Nothing => {}
+            Seen::Signatures(signatures) => put(&mut self.signatures, Some(signatures)),
+            Seen::Secret(_) => {}
         }
     }
 
-    // A channel that the host has a record of has one here, too, which says nothing.
-    fn know(&mut self, alloc: Global, answer: Answer) -> Result<(), Refusal> {
-        match answer.known {
-            Some(channel) => self.store.save(alloc, &channel, &[]),
-            None => Ok(()),
+    // How the peer is told that its message was refused (BOLT 1, "The `error` and `warning` Messages").
+    fn reply(&mut self, alloc: Global, refusal: Refusal, channel: Option<[u8; 32]>) -> Refusal
+        ensures { Replies (reply_due refusal channel self.old.link.connection) refusal result (seat self.old)
+            (seat self.new) }
+    {
+        let Some(channel) = channel else {
+            return refusal;
+        };
+        if self.machine().connection().is_down() {
+            return refusal;
         }
+        self.put_reply(alloc, refusal, &channel)
+    }
+
+    fn put_reply(&mut self, alloc: Global, refusal: Refusal, channel: &[u8; 32]) -> Refusal
+        ensures { Replies (reply_to refusal channel.now) refusal result (seat self.old) (seat self.new) }
+    {
+        match Message::reply_to(alloc, refusal, channel) {
+            Ok(None) => refusal,
+            Ok(Some(message)) => {
+                let reply = Outgoing {
+                    message,
+                    blank: None,
+                };
+                match self.line.put_message(reply) {
+                    Ok(()) => refusal,
+                    Err(memory) => self.halted(memory),
+                }
+            }
+            Err(memory) => self.halted(memory),
+        }
+    }
+
+    // The link halts, as there is no memory.
+    fn halted(&mut self, memory: Refusal) -> Refusal
+        ensures answer { result ≡ memory }
+        ensures halts { seat self.new ≡ halted (seat self.old) }
+    {
+        self.link.halt();
+        memory
     }
 
     /// What stands first in the line. Takes no memory.
@@ -379,19 +478,19 @@ impl HostLink {
         self.line.head()
     }
 
-    /// What the host saves, whole, where a record stands first; `done` stands for this one alone. 60 where there is no
-    /// memory.
-    pub fn unsaved(&mut self, alloc: Global) -> Result<Option<HostRecord>, Refusal>
-        ensures same_line { self.new.line ≡ self.old.line }
-        ensures shown { OnOk result (self.new.is_shown ≡ true) }
-        ensures not_shown { OnErr result (self.new.is_shown ≡ self.old.is_shown) }
+    /// The host is shown what stands first; `done` stands for this alone. Takes no memory.
+    pub fn show(&mut self)
+        ensures { seat self.new ≡ shown (seat self.old) }
     {
-        let record = self.record(alloc)?;
         self.is_shown = true;
-        Ok(record)
     }
 
-    fn record(&self, alloc: Global) -> Result<Option<HostRecord>, Refusal> {
+    /// What the host saves, whole: the record, the peer's signatures, and its secrets since the record that the host
+    /// has. 60 where there is no memory.
+    pub fn unsaved(&self, alloc: Global) -> Result<Option<HostRecord>, Refusal>
+        ensures record { IfOk result (λ r. r ≡ host_record (seat self.now)) }
+        ensures fails_for_memory_alone { IfErr result (λ r. r ≡ refusal.Memory) }
+    {
         let Some(channel) = self.machine().saved() else {
             return Ok(None);
         };
@@ -410,50 +509,90 @@ impl HostLink {
     /// What stands first in the line is dealt with: a record is saved, a blank filled by this answer, a message sent,
     /// or what was told acted on.
     ///
-    /// Errors: 81 where a blank is filled by too few or too many bytes, or anything else comes with an answer; 40 where
-    /// nothing waits, or a record that wasn't shown since the last call; 60. Nothing has changed then.
-    pub fn done(&mut self, alloc: Global, answer: &[u8]) -> Result<(), HostRefusal> {
+    /// Errors: 40 where nothing waits, or what stands first wasn't shown since the last call; 81 where a blank is
+    /// filled by too few or too many bytes, or anything else comes with an answer; 60. Nothing has changed then.
+    pub fn done(&mut self, alloc: Global, answer: &[u8]) -> Result<(), HostRefusal>
+        ensures does { IsDone (done_by answer.now (seat self.old)) result (seat self.old) (seat self.new) }
+    {
+        if !self.is_shown {
+            return Err(HostRefusal::Refused(Refusal::NotReady));
+        }
         match self.line.head() {
             None => Err(HostRefusal::Refused(Refusal::NotReady)),
+            Some(Head::Record) => self.save_done(alloc, answer),
             Some(Head::Blank(blank)) => {
-                let filling = match filling_at(alloc, blank, answer) {
-                    Ok(filling) => filling,
-                    Err(Refusal::Memory) => return Err(HostRefusal::Refused(Refusal::Memory)),
-                    Err(_) => return Err(HostRefusal::Answer),
-                };
-                self.line.fill_first(filling);
+                let filling = filling_of(alloc, blank, answer)?;
+                self.fill_first(filling);
                 Ok(())
             }
-            Some(_) if !answer.is_empty() => Err(HostRefusal::Answer),
-            Some(Head::Record) if !self.is_shown => Err(HostRefusal::Refused(Refusal::NotReady)),
-            Some(Head::Record) => Ok(self.record_saved(alloc)?),
-            Some(_) => {
-                self.line.take_head();
-                Ok(())
-            }
+            Some(Head::Send(_)) => self.take_off(answer),
+            Some(Head::Told(_)) => self.take_off(answer),
         }
     }
 
-    // The host has saved the record.
-    fn record_saved(&mut self, alloc: Global) -> Result<(), Refusal> {
-        let taken = match self.link.channel_machine().saved() {
-            None => None,
-            Some(channel) => match self.store.find(&channel.id()) {
-                None => None,
-                Some(record) => Some(Bytes::from_slice(alloc, record.as_slice())?),
-            },
-        };
-        self.taken = taken;
-        self.secrets.clear();
+    // The host has saved the record. Errors: 81 where it comes with an answer, 60.
+    fn save_done(&mut self, alloc: Global, answer: &[u8]) -> Result<(), HostRefusal>
+        requires { self.old.line.record_waits ≡ true }
+        ensures { IsDone (unanswered answer.now (record_saved (seat self.old))) result (seat self.old)
+            (seat self.new) }
+    {
+        if !answer.is_empty() {
+            return Err(HostRefusal::Answer);
+        }
+        match self.copied_record(alloc) {
+            Ok(record) => {
+                put(&mut self.taken, record);
+                self.secrets.clear();
+                self.line.take_head();
+                self.is_shown = false;
+                Ok(())
+            }
+            Err(memory) => Err(HostRefusal::Refused(memory)),
+        }
+    }
+
+    // The first message is filled.
+    fn fill_first(&mut self, filling: Filling)
+        ensures { seat self.new ≡ filled_first filling (seat self.old) }
+    {
+        self.line.fill_first(filling);
+        self.is_shown = false;
+    }
+
+    // What stands first leaves. Error: 81 where it comes with an answer.
+    fn take_off(&mut self, answer: &[u8]) -> Result<(), HostRefusal>
+        ensures { IsDone (unanswered answer.now (taken_off (seat self.old))) result (seat self.old) (seat self.new) }
+    {
+        if !answer.is_empty() {
+            return Err(HostRefusal::Answer);
+        }
         self.line.take_head();
+        self.is_shown = false;
         Ok(())
+    }
+
+    // The bytes of the record, where the link has one.
+    fn copied_record(&self, alloc: Global) -> Result<Option<Bytes>, Refusal>
+        ensures record { IfOk result (λ r. r ≡ record_of (seat self.now)) }
+        ensures fails_for_memory_alone { IfErr result (λ r. r ≡ refusal.Memory) }
+    {
+        match self.machine().saved() {
+            None => Ok(None),
+            Some(channel) => match self.store.find(&channel.id()) {
+                None => Ok(None),
+                Some(record) => Ok(Some(Bytes::from_slice(alloc, record.as_slice())?)),
+            },
+        }
     }
 }
 
 fn copied_held(
     alloc: Global,
     held: &Option<HeldSignatures>,
-) -> Result<Option<HeldSignatures>, Refusal> {
+) -> Result<Option<HeldSignatures>, Refusal>
+    ensures same { IfOk result (λ h. h ≡ held.now) }
+    ensures fails_for_memory_alone { IfErr result (λ r. r ≡ refusal.Memory) }
+{
     match held {
         None => Ok(None),
         Some(held) => Ok(Some(HeldSignatures {

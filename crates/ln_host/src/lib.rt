@@ -20,7 +20,7 @@ pub use filling::{Filling, fill, filling_at};
 pub use greeting::{channel_of, init_with, pong_to};
 pub use host_link::HostLink;
 pub use keys::HostKeys;
-pub use laws::saved_before_sent;
+pub use laws::{hosted_lines_are_lines, saved_before_sent};
 pub use line::{Head, Line, Outgoing, Told};
 pub use question::{Question, question_about};
 pub use record::{HeldSignatures, HostRecord, PeerSecret};

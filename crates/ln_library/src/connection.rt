@@ -1,5 +1,8 @@
 //! What of a connection is of no channel (BOLT 1).
 
+ghost use Rattle.std.specs.Prelude.{◌≡◌, ◌⊎◌, ℕ, length, Ok, Err};
+ghost use Rattle.ln_library.specs.Messages.{Reads, Writes};
+
 use ln_bytes::value_of;
 use ln_host::{channel_of, init_with, pong_to};
 use ln_msgs::{Incoming, Init, LONGEST_MESSAGE, Message, decode, encode, fits};
@@ -9,7 +12,9 @@ use std::alloc::Global;
 
 /// The message of these bytes; none of an odd type that isn't known, which is ignored. Errors: the first fault of the
 /// bytes, 1 to 9; 60 where there is no memory.
-pub(crate) fn read(alloc: Global, bytes: &[u8]) -> Result<Option<Message>, Refusal> {
+pub(crate) fn read(alloc: Global, bytes: &[u8]) -> Result<Option<Message>, Refusal>
+    ensures { Reads bytes.now result }
+{
     match decode(alloc, bytes) {
         Ok(Incoming::Known(message)) => Ok(Some(message)),
         Ok(Incoming::Ignored(_)) => Ok(None),
@@ -18,7 +23,9 @@ pub(crate) fn read(alloc: Global, bytes: &[u8]) -> Result<Option<Message>, Refus
 }
 
 /// The bytes of a message. Errors: 7 where it has more than 65,535, 60 where there is no memory.
-pub(crate) fn written(alloc: Global, message: &Message) -> Result<Vec<u8>, Refusal> {
+pub(crate) fn written(alloc: Global, message: &Message) -> Result<Vec<u8>, Refusal>
+    ensures { Writes (λ v. v.items) message.now result }
+{
     if !fits(message) {
         return Err(Refusal::TooLong);
     }

@@ -1,5 +1,17 @@
 //! The calls of a link, by bytes.
 
+ghost use Rattle.std.specs.Prelude.{◌≡◌, ◌≢◌, ◌⊎◌, length, Some, None, Ok, Err, IfOk, IfErr};
+ghost use Rattle.ln_refusals.specs.declared.refusal.Refusal.TheVariants as refusal;
+ghost use Rattle.ln_channel.specs.Asking.{naming_answer};
+ghost use Rattle.ln_channel.specs.Config.{IsFitConfig, IsFitSpec};
+ghost use Rattle.ln_host.specs.declared.answer.HostRefusal.TheVariants as host;
+ghost use Rattle.ln_host.specs.declared.record.HostRecord.{HostRecord};
+ghost use Rattle.ln_host.specs.Doing.{done_by, IsDone};
+ghost use Rattle.ln_host.specs.Seats.{seat, ComesBack, IsRefusedRecord};
+ghost use Rattle.ln_library.specs.Calls.{CannotBegin, Asks, Hears, Obeys, funding_row, IsLoaded, CannotLoad};
+ghost use Rattle.ln_wire.specs.Forms.{whole_in};
+ghost use Rattle.ln_wire.specs.Setup.{config as config_form, spec as spec_form};
+
 use crate::connection::{read, written};
 use crate::summary::summary_of;
 use ln_bytes::Bytes;
@@ -15,7 +27,10 @@ use ln_wire::{
 };
 use std::alloc::Global;
 
-fn point_of(bytes: &[u8]) -> Result<[u8; 33], HostRefusal> {
+fn point_of(bytes: &[u8]) -> Result<[u8; 33], HostRefusal>
+    ensures length { IfOk result (λ p. length bytes.now ≡ 33) }
+    ensures refused { IfErr result (λ e. (e ≡ host.Answer) × (length bytes.now ≢ 33)) }
+{
     match bytes.split_first_chunk::<33>() {
         Some((point, [])) => Ok(*point),
         _ => Err(HostRefusal::Answer),
@@ -26,7 +41,10 @@ fn point_of(bytes: &[u8]) -> Result<[u8; 33], HostRefusal> {
 ///
 /// Errors: 81 where the point hasn't 33 bytes, 70 where the bytes are no spec, 40 where no channel can be opened by it
 /// (`OpenSpec::fits`), 60.
-pub fn open(alloc: Global, spec: &[u8], first_point: &[u8]) -> Result<HostLink, HostRefusal> {
+pub fn open(alloc: Global, spec: &[u8], first_point: &[u8]) -> Result<HostLink, HostRefusal>
+    ensures refuses { IfErr result (λ e.
+        CannotBegin IsFitSpec (whole_in spec_form spec.now) first_point.now e) }
+{
     let first_point = point_of(first_point)?;
     let spec = decode_spec(alloc, spec)?;
     if !spec.fits() {
@@ -37,7 +55,10 @@ pub fn open(alloc: Global, spec: &[u8], first_point: &[u8]) -> Result<HostLink, 
 }
 
 /// A new link of a fundee, by the bytes of its config and its first per commitment point. Errors as those of `open`.
-pub fn accept(alloc: Global, config: &[u8], first_point: &[u8]) -> Result<HostLink, HostRefusal> {
+pub fn accept(alloc: Global, config: &[u8], first_point: &[u8]) -> Result<HostLink, HostRefusal>
+    ensures refuses { IfErr result (λ e.
+        CannotBegin IsFitConfig (whole_in config_form config.now) first_point.now e) }
+{
     let first_point = point_of(first_point)?;
     let config = decode_config(alloc, config)?;
     if !config.fits() {
@@ -49,13 +70,18 @@ pub fn accept(alloc: Global, config: &[u8], first_point: &[u8]) -> Result<HostLi
 
 /// The link that comes back from what its host saved. Errors: 70 and 71 as of `Link::from_record`, also where the bytes
 /// are nothing that a host saved; 60.
-pub fn load(alloc: Global, saved: &[u8]) -> Result<HostLink, Refusal> {
+pub fn load(alloc: Global, saved: &[u8]) -> Result<HostLink, Refusal>
+    ensures comes_back { IfOk result (λ h. IsLoaded saved.now (seat h)) }
+    ensures refuses { IfErr result (λ e. CannotLoad saved.now e) }
+{
     let saved = decode_saved(alloc, saved)?;
     HostLink::load(alloc, saved)
 }
 
 /// Names the funding: `HostLink::name_funding`. Errors: 81 where the txid hasn't 32 bytes, 40.
-pub fn fund(link: &mut HostLink, txid: &[u8], output: u16) -> Result<(), HostRefusal> {
+pub fn fund(link: &mut HostLink, txid: &[u8], output: u16) -> Result<(), HostRefusal>
+    ensures answer { result ≡ funding_row txid.now (naming_answer link.old.link.stage) }
+{
     match txid.split_first_chunk::<32>() {
         Some((txid, [])) => Ok(link.name_funding(*txid, output)?),
         _ => Err(HostRefusal::Answer),
@@ -64,7 +90,9 @@ pub fn fund(link: &mut HostLink, txid: &[u8], output: u16) -> Result<(), HostRef
 
 /// The question about a message; no bytes where there is none. Errors: the first fault of the message's bytes, 1 to
 /// 9; 60.
-pub fn question(alloc: Global, link: &HostLink, message: &[u8]) -> Result<Vec<u8>, Refusal> {
+pub fn question(alloc: Global, link: &HostLink, message: &[u8]) -> Result<Vec<u8>, Refusal>
+    ensures asks { Asks (λ v. v.items) link.now.link message.now result }
+{
     let message = read(alloc, message)?;
     match &message {
         None => Ok(Vec::new(alloc)),
@@ -82,7 +110,9 @@ pub fn message(
     link: &mut HostLink,
     message: &[u8],
     answer: &[u8],
-) -> Result<(), HostRefusal> {
+) -> Result<(), HostRefusal>
+    ensures hears { Hears message.now answer.now result (seat link.old) (seat link.new) }
+{
     match read(alloc, message)? {
         None => Ok(()),
         Some(message) => link.message(alloc, message, answer),
@@ -90,13 +120,16 @@ pub fn message(
 }
 
 /// Does what a command says: `HostLink::command`. Errors: 70 where the bytes are no command.
-pub fn command(alloc: Global, link: &mut HostLink, command: &[u8]) -> Result<(), Refusal> {
+pub fn command(alloc: Global, link: &mut HostLink, command: &[u8]) -> Result<(), Refusal>
+    ensures obeys { Obeys command.now result (seat link.old) (seat link.new) }
+{
     let command = decode_command(alloc, command)?;
     link.command(alloc, command)
 }
 
-/// What stands first in the line; no bytes where nothing waits. 60 where there is no memory.
-pub fn next(alloc: Global, link: &mut HostLink) -> Result<Vec<u8>, Refusal> {
+/// What stands first in the line; no bytes where nothing waits. It is shown once the host has these bytes:
+/// `HostLink::show`. Errors: 7 where a message has more than 65,535 bytes, 60 where there is no memory.
+pub fn next(alloc: Global, link: &HostLink) -> Result<Vec<u8>, Refusal> {
     match link.head() {
         None => Ok(Vec::new(alloc)),
         Some(Head::Record) => match &link.unsaved(alloc)? {
@@ -113,7 +146,9 @@ pub fn next(alloc: Global, link: &mut HostLink) -> Result<Vec<u8>, Refusal> {
 }
 
 /// What stands first in the line is dealt with: `HostLink::done`.
-pub fn done(alloc: Global, link: &mut HostLink, answer: &[u8]) -> Result<(), HostRefusal> {
+pub fn done(alloc: Global, link: &mut HostLink, answer: &[u8]) -> Result<(), HostRefusal>
+    ensures does { IsDone (done_by answer.now (seat link.old)) result (seat link.old) (seat link.new) }
+{
     link.done(alloc, answer)
 }
 

@@ -12,8 +12,6 @@ mod marks;
 mod questions;
 mod setup;
 mod summary;
-#[cfg(test)]
-mod tests;
 mod whole;
 mod wire;
 

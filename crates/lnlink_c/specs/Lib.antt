@@ -1,3 +1,4 @@
+pub mod Answers
 pub mod Holding
 pub mod Object
 pub mod Owned

@@ -5,7 +5,8 @@
 //! `ASKS`, 81 `ANSWER`, 82 `SHORT` or 83 `HANDLE`. What C may do wrong with a pointer is answered in c/lnlink.c.
 #![tactic(auto)]
 
-ghost use Rattle.std.specs.Prelude.{◌≡◌, ◌≢◌, ◌↔◌, pos, IsSome, IsNone};
+ghost use Rattle.std.specs.Prelude.{◌≡◌, ◌≢◌, ◌⊎◌, length, pos, IsSome, IsNone, Some, IfOk, IfErr};
+ghost use Rattle.lnlink_c.specs.Answers.{answer_number, done_number, host_number, host_done_number, Copies};
 
 mod held;
 
@@ -21,22 +22,28 @@ const SHORT: i32 = 82;
 const HANDLE: i32 = 83;
 
 // The number of a refusal, and the peer's rule that 44 carries in the second byte.
-fn code_of(refusal: Refusal) -> i32 {
+fn code_of(refusal: Refusal) -> i32
+    ensures { result ≡ pos (answer_number refusal) }
+{
     let rule = match refusal {
-        Refusal::PeerLimit(rule) => i32::from(rule.number() % 128) * 256,
+        Refusal::PeerLimit(rule) => i32::from(rule.number()) * 256,
         _ => 0,
     };
-    rule + i32::from(refusal.number() % 128)
+    rule + i32::from(refusal.number())
 }
 
-fn code(done: Result<(), Refusal>) -> i32 {
+fn code(done: Result<(), Refusal>) -> i32
+    ensures { result ≡ pos (done_number done) }
+{
     match done {
         Ok(()) => 0,
         Err(refusal) => code_of(refusal),
     }
 }
 
-fn host_code(done: Result<(), HostRefusal>) -> i32 {
+fn host_code(done: Result<(), HostRefusal>) -> i32
+    ensures { result ≡ pos (host_done_number done) }
+{
     match done {
         Ok(()) => 0,
         Err(HostRefusal::Refused(refusal)) => code_of(refusal),
@@ -48,6 +55,9 @@ fn host_code(done: Result<(), HostRefusal>) -> i32 {
 // Puts a link that was made into a handle.
 fn put(alloc: Global, made: Result<HostLink, HostRefusal>, out: &mut Held) -> i32
     ensures kept { result ≢ pos 0 → out.new ≡ out.old }
+    ensures held { result ≡ pos 0 → IfOk made (λ h. out.new.value ≡ Some h) }
+    ensures refused { IfErr made (λ e. result ≡ pos (host_number e)) }
+    ensures fails_for_memory_alone { IfOk made (λ h. (result ≡ pos 0) ⊎ (result ≡ pos 60)) }
 {
     match made {
         Err(refusal) => host_code(Err(refusal)),
@@ -63,6 +73,9 @@ fn put(alloc: Global, made: Result<HostLink, HostRefusal>, out: &mut Held) -> i3
 
 // Copies bytes to the start of `out`, where there is room for all of them; `len` says how many there are.
 fn copied(bytes: Result<Vec<u8>, Refusal>, out: &mut [u8], len: &mut usize) -> i32
+    ensures copies { IfOk bytes (λ v. Copies v.items result out.old out.new) }
+    ensures counts { IfOk bytes (λ v. len.new ≡ length v.items) }
+    ensures refused { IfErr bytes (λ e. (result ≡ pos (answer_number e)) × (out.new ≡ out.old) × (len.new ≡ len.old)) }
     ensures short { result ≢ pos 0 → out.new ≡ out.old }
 {
     match bytes {
@@ -207,7 +220,7 @@ pub extern "C" fn lnl0_command(alloc: Global, link: &mut Held, command: &[u8]) -
     code(ln_library::command(alloc, link.get(), command))
 }
 
-/// What stands first in the line: `ln_library::next`.
+/// What stands first in the line: `ln_library::next`. It is shown where the buffer has it.
 #[unsafe(no_mangle)]
 pub extern "C" fn lnl0_next(alloc: Global, link: &mut Held, out: &mut [u8], len: &mut usize) -> i32
     ensures held { IsNone link.old.value → result ≡ pos 83 }
@@ -216,7 +229,12 @@ pub extern "C" fn lnl0_next(alloc: Global, link: &mut Held, out: &mut [u8], len:
     if !link.is_there() {
         return HANDLE;
     }
-    copied(ln_library::next(alloc, link.get()), out, len)
+    let link = link.get();
+    let answer = copied(ln_library::next(alloc, link), out, len);
+    if answer == 0 {
+        link.show();
+    }
+    answer
 }
 
 /// It is dealt with: `ln_library::done`.

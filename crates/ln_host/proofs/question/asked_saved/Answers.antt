@@ -1,5 +1,4 @@
-use Rattle.std.proofs.Common.{◌≡◌, sym, ◌∙◌}
-use Rattle.ln_channel.specs.State.{is_connected}
+use Rattle.std.proofs.Common.{sym, ◌∙◌}
 use Rattle.ln_host.proofs.question.asked_saved.Goals as goal
 
 pub returns-then-is_connected-clause-asked : goal.returns-then-is_connected-clause-asked

@@ -1,25 +1,18 @@
 //! Values as bytes that were written by hand.
 
-ghost use Rattle.std.specs.Prelude.{◌<◌};
-
-use crate::items::Item;
-use crate::summary::{LinkStatus, LinkSummary};
-use crate::{
-    decode_command, decode_config, decode_item, decode_question, decode_saved, decode_spec,
-    decode_summary, decode_view, encode_command, encode_config, encode_item, encode_question,
-    encode_saved, encode_spec, encode_summary, encode_view, one_form,
-};
+use crate::rows::{Part, bytes_of};
 use ln_channel::{Command, Config, ConnectionState, OpenSpec};
 use ln_hooks::ChannelEvent;
 use ln_host::{HostRecord, Question};
 use ln_keys::Role;
 use ln_log::Mark;
 use ln_refusals::Refusal;
-use ln_store::stored::put_u8;
+use ln_wire::{
+    Item, LinkStatus, LinkSummary, decode_command, decode_config, decode_item, decode_question,
+    decode_saved, decode_spec, decode_summary, decode_view, encode_command, encode_config,
+    encode_item, encode_question, encode_saved, encode_spec, encode_summary, encode_view, one_form,
+};
 use std::alloc::Global;
-
-/// Hex digits, and how many times they stand there.
-type Part = (&'static str, u32);
 
 /// `htlc_minimum_msat` 1, `max_accepted_htlcs` 483, `max_htlc_value_in_flight_msat` 5,000,000,
 /// `channel_reserve_satoshis` 1000; `chain_hash`; `dust_limit_satoshis` 546, `to_self_delay` 144, `minimum_depth` 3.
@@ -254,36 +247,6 @@ const SUMMARY: [Part; 7] = [
     ("00000000000000070000000000000002", 1),
     ("00000000000000010000000000000002", 1),
 ];
-
-fn digit_of(code: u8) -> u8
-    ensures { result < 16 }
-{
-    match code {
-        b'0'..=b'9' => code - b'0',
-        b'a'..=b'f' => code - b'a' + 10,
-        _ => 0,
-    }
-}
-
-fn put_digits(out: &mut Vec<u8>, digits: &[u8]) -> Result<(), Refusal> {
-    for i in 0..digits.len() / 2 {
-        put_u8(
-            out,
-            digit_of(digits[2 * i]) * 16 + digit_of(digits[2 * i + 1]),
-        )?;
-    }
-    Ok(())
-}
-
-fn bytes_of(alloc: Global, row: &[Part]) -> Result<Vec<u8>, Refusal> {
-    let mut out = Vec::new(alloc);
-    for (digits, times) in row {
-        for _ in 0..*times {
-            put_digits(&mut out, digits.as_bytes())?;
-        }
-    }
-    Ok(out)
-}
 
 /// The bytes of the value that the bytes are.
 fn again(alloc: Global, kind: Kind, bytes: &[u8]) -> Result<Vec<u8>, Refusal> {
