@@ -1,6 +1,7 @@
 pub mod Value
 pub mod Saying
 pub mod Uses
+pub mod Alone
 pub mod Answers
 pub mod Owing
 pub mod Snapshots

@@ -13,7 +13,7 @@ use Rattle.ln_channel.specs.Step.{Done, faulted, handled, commanded, asked, is_o
 use Rattle.ln_world_channels.proofs.Mirror.{link_at}
 use Rattle.ln_payment_circuits.specs.Shift.{Stays}
 use Rattle.ln_payment_circuits.proofs.Calls.{Plain, IsPlainCommand, taken_plain, resumed_plain, command_plain}
-use Rattle.ln_world.specs.Commands.{is_books}
+use Rattle.ln_book.specs.Alone.{is_books}
 use Rattle.ln_world.proofs.Answering.{IfDone, handled_so, obeyed_so}
 
 plain_command : (c : Command) → is_books c ≡ false → IsPlainCommand c

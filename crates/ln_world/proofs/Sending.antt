@@ -33,7 +33,7 @@ use Rattle.ln_payment_circuits.proofs.Links.{Changed}
 use Rattle.ln_payment_circuits.proofs.Lists.{of_picked}
 use Rattle.ln_payment_circuits.proofs.Shifts.{side_of as read_side}
 use Rattle.ln_payment_circuits.proofs.Scenes.{Scene, HavePayments}
-use Rattle.ln_world.specs.Commands.{is_books}
+use Rattle.ln_book.specs.Alone.{is_books}
 use Rattle.ln_world.proofs.Answering.{RowSteps, IfDone, AtSaved}
 use Rattle.ln_world.proofs.Moving.{row_of, row_front}
 use Rattle.ln_world.proofs.Scene.{link_in, links_of, scene_of}

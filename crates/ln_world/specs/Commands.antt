@@ -1,10 +1,8 @@
--- Which commands the ends of a node take of its book alone: each that removes an HTLC, and an add that says which HTLC
--- it forwards.
-use Rattle.std.specs.Prelude.{◌≡◌, ◌<◌, List, Bool, true, false, Some, None}
+-- Steps in which nobody but a node's book asks its ends for what is the book's.
+use Rattle.std.specs.Prelude.{◌≡◌, ◌<◌, List, true, false}
 use Rattle.ln_keys.specs.declared.keys.ChannelKeys.{Ghosts}
 use Rattle.ln_hooks.specs.declared.verdict.Verdict.{Verdict}
-use Rattle.ln_channel.specs.declared.command.Command.{Command}
-use Rattle.ln_channel.specs.declared.command.Command.TheVariants as command
+use Rattle.ln_book.specs.Alone.{is_books}
 use Rattle.ln_world_channels.specs.declared.step.Node.{Node}
 use Rattle.ln_world_channels.specs.declared.step.End.{End}
 use Rattle.ln_world_channels.specs.WorldChannel.{is_node}
@@ -13,20 +11,6 @@ use Rattle.ln_world.specs.declared.step.Act.{Act}
 use Rattle.ln_world.specs.declared.step.Act.TheVariants as act
 use Rattle.ln_world.specs.declared.step.Step.{Step}
 use Rattle.ln_world.specs.declared.step.Step.TheVariants as step
-
-abbrev pub is_books : Command → Bool
-is_books (command.Confirm id) = false
-is_books (command.Add amount hash expiry onion None) = false
-is_books (command.Add amount hash expiry onion (Some origin)) = true
-is_books (command.Fulfil id preimage) = true
-is_books (command.Fail id reason) = true
-is_books (command.Malformed id sha code) = true
-is_books (command.Fee feerate) = false
-is_books command.Sign = false
-is_books (command.Shutdown script) = false
-is_books (command.Decide event mark) = false
-is_books (command.Forget id) = false
-is_books (command.Resume event mark) = false
 
 -- what an end of the node is given is none of these
 abbrev pub OfBook : Node → End → Act → Type 0
