@@ -47,16 +47,14 @@ FAULTS = {1: 0xC004, 2: 0xC006, 3: 0xC005}  # of the version, the key, the HMAC
 
 
 class Hop:
-    """What the numbers of an onion say: its fault, whether it is the final hop's, and the payload's records."""
+    """What a line's numbers say of an onion: its fault, whether it is the final hop's, and the payload's records."""
 
-    def __init__(self, numbers, digest):
-        self.fault, self.final, mask, amount, expiry, short_id, secret, amounts = numbers
-        self.amount = amount if mask & 1 else None
-        self.expiry = expiry if mask & 2 else None
-        self.short_id = short_id if mask & 4 else None
-        self.payment = (secret % 256, amounts) if mask & 8 else None
-        self.bad = expiry >= 2**32 and mask & 2 or self.fault == 4
-        self.empty = mask & 15 == 0 and self.fault != 4
+    def __init__(self, n, digest):
+        self.fault, self.final = n.get("fault", 0), n.get("final", 0)
+        self.amount, self.expiry, self.short_id = map(n.get, ("forward_amount", "forward_expiry", "short_id"))
+        self.payment = (n["secret"] % 256, n.get("total", 0)) if "secret" in n else None
+        self.bad = (self.expiry or 0) >= 2**32 or self.fault == 4
+        self.empty = self.fault != 4 and {self.amount, self.expiry, self.short_id, self.payment} == {None}
         self.digest = digest
         payload = self.records()
         self.packet = bytearray(packet(bytes([len(payload)]) + payload + (b"" if self.final else REST), digest))
@@ -366,38 +364,41 @@ class Book:
     # ---- a line
 
     def call(self, line):
-        kind, *n = line.split(" ")
-        n = [int(it) for it in n]
+        kind, *words = line.split(" ")
+        n = dict(word.split("=") for word in words)
+        removals = [int(it) for it in n.pop("removals", "").split(",") if it]
+        n = {name: int(it) for name, it in n.items()}
+        channel = n.get("channel")
         if kind == "route":
-            self.routes[n[0]] = tuple(n[1:])
+            self.routes[n["short_id"]] = channel, n["base"], n["proportional"], n["delta"], n["minimum"]
         elif kind == "use":
-            self.used[n[0]] = n[1] == 1
+            self.used[channel] = n["takes"] == 1
         elif kind == "usable":
-            return "usable" if self.used.get(n[0], False) else "not usable"
+            return "usable" if self.used.get(channel, False) else "not usable"
         elif kind == "height":
-            self.height = n[0]
+            self.height = n["blocks"]
         elif kind == "expect":
-            self.expected[sha256(bytes_of(n[0])).digest()] = bytes_of(n[0]), n[1] % 256, n[2]
+            preimage = bytes_of(n["preimage"])
+            self.expected[sha256(preimage).digest()] = preimage, n["secret"] % 256, n["amount"]
         elif kind == "decide":
-            digest = sha256(bytes_of(n[5])).digest()
-            offer = {"id": n[3], "amount": n[4], "hash": digest, "expiry": n[6], "hop": Hop(n[8:], digest)}
-            return show(self.decide(n[0], n[1], None if n[2] == 1 else offer, verdict_of(n[7])))
+            digest = sha256(bytes_of(n["preimage"])).digest()
+            offer = {"id": n["id"], "amount": n["amount"], "hash": digest, "expiry": n["expiry"], "hop": Hop(n, digest)}
+            return show(self.decide(channel, n["event"], None if n.get("own") == 1 else offer, verdict_of(n)))
         elif kind == "resume":
-            mark = self.resume(n[0], n[1], verdict_of(n[2]))
+            mark = self.resume(channel, n["event"], verdict_of(n))
             return show(mark) if mark else "refused 40"
         elif kind == "held":
             return "held" + "".join(show_held(h) for h in self.held())
         elif kind == "settled":
-            values = bytes_of(n[4]), n[4] % 2**16
-            outcome = (("fulfilled", "failed", "malformed")[min(n[3], 2)], *values)
-            self.settled(n[0], n[1] == 1, n[2], outcome)
+            how, number = next((how, n[how]) for how in ("fulfilled", "failed", "malformed") if how in n)
+            self.settled(channel, n["own"] == 1, n["id"], (how, bytes_of(number), number % 2**16))
         elif kind == "take":
-            command = self.take(n[0])
+            command = self.take(channel)
             return show_command(command) if command else "nothing"
         elif kind == "answered":
-            self.answered(n[0], n[1] != 0, n[2])
+            self.answered(channel, "refused" in n, n["refused"] if "refused" in n else n["id"])
         elif kind == "dropped":
-            self.dropped(n[0], n[1], lambda event, _: event < n[2], n[3:])
+            self.dropped(channel, n["next_id"], lambda event, _: event < n["decided"], removals)
         else:
             self.rebuild([])
         return "done"
@@ -410,8 +411,8 @@ def left_over(key, way):
     return h
 
 
-def verdict_of(number):
-    return HOLD if number == HOLDS else number
+def verdict_of(n):
+    return HOLD if n.get("verdict") == HOLDS else n.get("verdict", 0)
 
 
 def show(mark):

@@ -13,7 +13,13 @@ ID = bytes([9]) * 30 + bytes([8, 11])  # of the output 258 of a transaction whos
 TEMPORARY, TXID, ZEROS, CHAIN = bytes([255]) * 32, bytes([9]) * 32, bytes(32), bytes([6]) * 32
 # what a line doesn't say of a side: its first point's byte, dust limit, delay and depth
 OWN = {"funder": (0x11, 546, 144, 3), "fundee": (0x21, 354, 6, 7)}
-USUAL = [1000000, 0, 1, 0, 1, 30, 10**12, 0, 300, 200, 400, 1, 30, 10**12, 0, 400, 350, 500]
+# what a line leaves out of a channel: satoshis, pushed, seed, the length of its type, and of each side its minimum, count,
+# sum and reserve, then its fee, the least and the greatest one
+SIDE = "minimum accepted in_flight reserve fee least greatest".split()
+USUAL = dict(funding=1000000, push=0, seed=1, types=0,
+             **dict(zip([f"a_{it}" for it in SIDE], [1, 30, 10**12, 0, 300, 200, 400])),
+             **dict(zip([f"b_{it}" for it in SIDE], [1, 30, 10**12, 0, 400, 350, 500])))
+MARKS = "none forward fail malformed fulfil held held_next".split()
 POINTS = "funding_pubkey revocation_basepoint payment_basepoint delayed_payment_basepoint htlc_basepoint".split()
 SIX = [(name, 33) for name in POINTS + ["first_per_commitment_point"]]
 
@@ -424,16 +430,16 @@ class Link(End):
         if not self.pending or self.pending[0][0] != u["event"]:
             raise Refused(40)
         event, (what, whose, *words) = self.pending[0][0], self.pending[0][1].split(" ")
-        if u["mark"] and (what, whose) != ("added", "peer") or u["mark"] == 6:
+        if u["mark"] != "none" and (what, whose) != ("added", "peer") or u["mark"] == "held_next":
             raise Refused(40)
         self.pending.pop(0)
-        if u["mark"] == 5:
+        if u["mark"] == "held":
             self.on_hold[event] = words[0]
         if (what, whose) == ("settled", "peer"):
             self.on_hold = {n: id for n, id in self.on_hold.items() if id != words[0]}
 
     def resume(self, u):
-        if u["event"] not in self.on_hold or u["mark"] in (0, 5, 6):
+        if u["event"] not in self.on_hold or u["mark"] in ("none", "held", "held_next"):
             raise Refused(40)
         del self.on_hold[u["event"]]
 
@@ -500,24 +506,23 @@ def part(word):
     return bytes.fromhex(digits) * int(count or 1)
 
 
-def command_of(word, words):
+def command_of(word, n):
     """A command's update, or what else it brings."""
     if word == "add":
-        return dict(kind="add", amount=words[0], hash=sha256(bytes([words[2] % 256]) * 32).digest(), expiry=words[1], onion=bytes(1366))
+        preimage = bytes([n["preimage"] % 256]) * 32
+        return dict(kind="add", amount=n["amount"], hash=sha256(preimage).digest(), expiry=n["expiry"], onion=bytes(1366))
     if word == "fulfil":
-        preimage = bytes([words[1] % 256]) * 32
-        return dict(kind="fulfil", id=words[0], preimage=preimage, hash=sha256(preimage).digest())
+        preimage = bytes([n["preimage"] % 256]) * 32
+        return dict(kind="fulfil", id=n["id"], preimage=preimage, hash=sha256(preimage).digest())
     if word == "fail":
-        return dict(kind="fail", id=words[0], reason=bytes([1]) * words[1])
+        return dict(kind="fail", id=n["id"], reason=bytes([1]) * n["length"])
     if word == "malformed":
-        return dict(kind="malformed", id=words[0], sha=ZEROS, code=words[1])
+        return dict(kind="malformed", id=n["id"], sha=ZEROS, code=n["code"])
     if word == "fee":
-        return dict(kind="fee", rate=words[0])
+        return dict(kind="fee", rate=n["rate"])
     if word == "shutdown":
-        return dict(script=bytes([words[1]]) * words[0])
-    if word in ("decide", "resume"):
-        return dict(event=words[0], mark=words[1])
-    return {}
+        return dict(script=bytes([n["byte"]]) * n["length"])
+    return n if word in ("decide", "resume") else {}
 
 
 COMMANDS = ("confirm", "add", "fulfil", "fail", "malformed", "fee", "sign", "shutdown", "decide", "resume", "forget")
@@ -531,19 +536,22 @@ class Links:
 
     def call(self, line):
         word, *words = line.split(" ")
+        n = dict(it.split("=") for it in words)
+        end, data = n.pop("end", None), n.pop("bytes", "")
+        n = {name: it if name == "mark" else int(it) for name, it in n.items()}
         if word in ("new", "made", "ready"):
-            return self.new(word, *(map(int, words) if words else USUAL))
-        it = self.ends[words[0]]
+            return self.new(word, *{**USUAL, **n}.values())
+        it = self.ends[end]
         if word == "pass":
             return self.passed(it)
         if word == "give":
-            return self.give(it, b"".join(map(part, words[1:])))
+            return self.give(it, b"".join(map(part, data.split(","))))
         if word == "deliver":
             return self.deliver(it)
         if word == "front":
             return it.inbox[0].hex() if it.inbox else "nothing"
         if word in COMMANDS:
-            return self.answer(it, lambda: it.obey(word, command_of(word, [int(n) for n in words[1:]])))
+            return self.answer(it, lambda: it.obey(word, command_of(word, n)))
         if word in ("connect", "up"):
             ends = [it, it.other][:1 + (word == "up")]
             greetings = [self.greeting(end) for end in ends]

@@ -1,6 +1,8 @@
-//! The calls of a book, by numbers.
+//! The calls of a book, by lines of named numbers.
 
 use crate::answers::Answers;
+use crate::many::call_often;
+use crate::names::names_of;
 use crate::node::Node;
 use crate::onion::onion_of;
 use crate::payments::payments;
@@ -10,8 +12,10 @@ use ln_bytes::{Bytes, ShortId};
 use ln_forward::Policy;
 use ln_hooks::{ChannelEvent, FailureCode, How, Msat, Verdict};
 use ln_keys::{ToyOnion, sha256_32};
+use ln_log::ChannelId;
+use ln_named_lines::{first_fault, number_in, number_of, number_or, value_of, words_of};
 use ln_refusals::Refusal;
-use ln_tests_ends::{at, bytes_of, code, numbers, wide};
+use ln_tests_ends::{bytes_of, code, wide};
 use std::alloc::{AllocError, Global};
 
 fn shown(alloc: Global, outcome: Result<(), Refusal>) -> Result<String, AllocError> {
@@ -21,58 +25,72 @@ fn shown(alloc: Global, outcome: Result<(), Refusal>) -> Result<String, AllocErr
     }
 }
 
-// Behind the call: the short channel id, the channel, base, proportional, delta, minimum.
-fn set_route(book: &mut Book, words: &[u64]) -> Result<(), Refusal> {
-    let id = ShortId::from_bytes(&at(words, 1).to_be_bytes());
+/// The number that a line gives a name, 0 where it gives none.
+pub fn at(words: &[&str], name: &str) -> u64 {
+    number_or(words, name, 0)
+}
+
+/// The id of the channel that a line names.
+pub fn channel_at(words: &[&str]) -> ChannelId {
+    bytes_of(at(words, "channel"))
+}
+
+fn set_route(book: &mut Book, words: &[&str]) -> Result<(), Refusal> {
+    let id = ShortId::from_bytes(&at(words, "short_id").to_be_bytes());
     let policy = Policy {
-        base: wide(at(words, 3)),
-        proportional: wide(at(words, 4)),
-        delta: code(at(words, 5)),
+        base: wide(at(words, "base")),
+        proportional: wide(at(words, "proportional")),
+        delta: code(at(words, "delta")),
     };
-    book.set_route(id, bytes_of(at(words, 2)), policy, at(words, 6))
+    book.set_route(id, channel_at(words), policy, at(words, "minimum"))
 }
 
 // The height, at most 400,000,000.
-fn set_height(book: &mut Book, words: &[u64]) {
-    book.set_height((at(words, 1) % 400_000_001) as u32);
+fn set_height(book: &mut Book, words: &[&str]) {
+    book.set_height((at(words, "blocks") % 400_000_001) as u32);
 }
 
 // What became of an HTLC: fulfilled by a preimage, failed, malformed by a code.
-fn how_of(alloc: Global, words: &[u64]) -> Result<How, AllocError> {
-    let number = at(words, 1);
-    match at(words, 0) {
-        0 => Ok(How::Fulfilled(bytes_of(number))),
-        1 => {
+fn how_of(alloc: Global, words: &[&str]) -> Result<How, AllocError> {
+    if let Some(number) = number_of(words, "fulfilled") {
+        return Ok(How::Fulfilled(bytes_of(number)));
+    }
+    match number_of(words, "failed") {
+        Some(number) => {
             let reason = Vec::from_slice(alloc, &bytes_of(number))?;
             Ok(How::Failed(Bytes::new(reason)))
         }
-        _ => Ok(How::Malformed(bytes_of(number), code(number))),
+        None => {
+            let number = at(words, "malformed");
+            Ok(How::Malformed(bytes_of(number), code(number)))
+        }
     }
 }
 
-// An HTLC that was added: whether it is the own one, its id, amount, preimage and expiry, and the onion.
-fn added(alloc: Global, words: &[u64]) -> Result<Box<ChannelEvent>, AllocError> {
-    let hash = sha256_32(&bytes_of(at(words, 3)));
-    let onion = onion_of(alloc, words.get(6..).unwrap_or(&[]), &hash)?;
-    let Some(amount) = Msat::new(at(words, 2)) else {
+/// An HTLC of this id that was added.
+pub fn added(alloc: Global, words: &[&str], id: u64) -> Result<Box<ChannelEvent>, AllocError> {
+    let hash = sha256_32(&bytes_of(at(words, "preimage")));
+    let onion = onion_of(alloc, words, &hash)?;
+    let Some(amount) = Msat::new(at(words, "amount")) else {
         return Err(AllocError);
     };
     let event = Box::new(
         alloc,
         ChannelEvent::Added {
-            own: at(words, 0) == 1,
-            id: at(words, 1),
+            own: at(words, "own") == 1,
+            id,
             amount,
             hash,
-            expiry: wide(at(words, 4)),
+            expiry: wide(at(words, "expiry")),
             onion,
         },
     )?;
     Ok(event)
 }
 
-// The hooks' verdict: 5 to hold, the failure's code, else to go on.
-fn verdict_of(number: u64) -> Verdict {
+/// The hooks' verdict: 5 to hold, the failure's code, else to go on.
+pub fn verdict_of(words: &[&str]) -> Verdict {
+    let number = at(words, "verdict");
     if number == 5 {
         return Verdict::Hold;
     }
@@ -82,26 +100,30 @@ fn verdict_of(number: u64) -> Verdict {
     }
 }
 
-// The channel, the event's number, and the HTLC with the verdict at its sixth place.
-fn decide(alloc: Global, book: &mut Book, words: &[u64]) -> Result<String, AllocError> {
-    let rest = words.get(3..).unwrap_or(&[]);
-    let event = added(alloc, rest)?;
-    let verdict = verdict_of(at(rest, 5));
-    let channel = bytes_of(at(words, 1));
-    match book.decide(alloc, &ToyOnion, channel, at(words, 2), &event, verdict) {
+fn decide(alloc: Global, book: &mut Book, words: &[&str]) -> Result<String, AllocError> {
+    let event = added(alloc, words, at(words, "id"))?;
+    let verdict = verdict_of(words);
+    let channel = channel_at(words);
+    match book.decide(
+        alloc,
+        &ToyOnion,
+        channel,
+        at(words, "event"),
+        &event,
+        verdict,
+    ) {
         Err(_) => String::from_str(alloc, "refused"),
         Ok(mark) => show_mark(alloc, &mark),
     }
 }
 
-// The channel, the number by which an HTLC is held, and a verdict.
-fn resume(alloc: Global, book: &mut Book, words: &[u64]) -> Result<String, AllocError> {
-    let verdict = verdict_of(at(words, 3));
+fn resume(alloc: Global, book: &mut Book, words: &[&str]) -> Result<String, AllocError> {
+    let verdict = verdict_of(words);
     match book.resume(
         alloc,
         &ToyOnion,
-        bytes_of(at(words, 1)),
-        at(words, 2),
+        channel_at(words),
+        at(words, "event"),
         verdict,
     ) {
         Err(Refusal::NotReady) => String::from_str(alloc, "refused 40"),
@@ -118,60 +140,79 @@ fn held(alloc: Global, book: &Book) -> Result<String, AllocError> {
     }
 }
 
-// The channel, and an HTLC that was removed: whether it is the own one, its id, and how.
-fn settled(alloc: Global, book: &mut Book, words: &[u64]) -> Result<String, AllocError> {
-    let how = how_of(alloc, words.get(4..).unwrap_or(&[]))?;
+// An HTLC was removed, an own one where that is 1.
+fn settled(alloc: Global, book: &mut Book, words: &[&str]) -> Result<String, AllocError> {
+    let how = how_of(alloc, words)?;
     let event = Box::new(
         alloc,
         ChannelEvent::Settled {
-            own: at(words, 2) == 1,
-            id: at(words, 3),
+            own: at(words, "own") == 1,
+            id: at(words, "id"),
             how,
         },
     )?;
-    shown(alloc, book.settled(alloc, bytes_of(at(words, 1)), &event))
+    shown(alloc, book.settled(alloc, channel_at(words), &event))
 }
 
-// The channel.
-fn take(alloc: Global, book: &mut Book, words: &[u64]) -> Result<String, AllocError> {
-    match book.take_commands(alloc, &ToyOnion, bytes_of(at(words, 1))) {
+fn take(alloc: Global, book: &mut Book, words: &[&str]) -> Result<String, AllocError> {
+    match book.take_commands(alloc, &ToyOnion, channel_at(words)) {
         Err(_) => String::from_str(alloc, "refused"),
         Ok(None) => String::from_str(alloc, "nothing"),
         Ok(Some(command)) => show_command(alloc, &command),
     }
 }
 
-// The channel, and an id or a refusal.
-fn answered(book: &mut Book, words: &[u64]) {
-    let channel = bytes_of(at(words, 1));
-    if at(words, 2) == 0 {
-        book.answered(channel, Ok(at(words, 3)));
-    } else {
-        book.answered(channel, Err(code(at(words, 3))));
+// A command was refused by a number, or taken, an add with this id.
+fn answered(book: &mut Book, words: &[&str]) {
+    let channel = channel_at(words);
+    match number_of(words, "refused") {
+        Some(number) => book.answered(channel, Err(code(number))),
+        None => book.answered(channel, Ok(at(words, "id"))),
     }
 }
 
-// The channel, the next own id, how many events are decided, and the HTLCs of which a removal was kept.
-fn dropped(alloc: Global, book: &mut Book, words: &[u64]) -> Result<String, AllocError> {
-    let removals = Vec::from_slice(alloc, words.get(4..).unwrap_or(&[]))?;
-    let answers = Answers {
-        next: at(words, 2),
-        removals,
-        decided: at(words, 3),
+// The numbers of a list, with commas between; none where one isn't a number.
+fn list_of(alloc: Global, list: &str) -> Result<Option<Vec<u64>>, AllocError> {
+    let mut all = Vec::new(alloc);
+    if list.is_empty() {
+        return Ok(Some(all));
+    }
+    for item in list.split(',') {
+        match number_in(item) {
+            Some(number) => all.push(number)?,
+            None => return Ok(None),
+        }
+    }
+    Ok(Some(all))
+}
+
+// How many events are decided, and of which HTLCs a removal was kept.
+fn dropped(alloc: Global, book: &mut Book, words: &[&str]) -> Result<String, AllocError> {
+    let list = value_of(words, "removals").unwrap_or("");
+    let Some(removals) = list_of(alloc, list)? else {
+        return String::from_str(alloc, "no list");
     };
-    shown(alloc, book.dropped(alloc, bytes_of(at(words, 1)), &answers))
+    let answers = Answers {
+        next: at(words, "next_id"),
+        removals,
+        decided: at(words, "decided"),
+    };
+    shown(alloc, book.dropped(alloc, channel_at(words), &answers))
 }
 
 // What is set: a route, whether a channel takes payments, the height, an invoice.
-fn set(alloc: Global, book: &mut Book, word: &str, words: &[u64]) -> Result<String, AllocError> {
-    let number = bytes_of(at(words, 1));
+fn set(alloc: Global, book: &mut Book, word: &str, words: &[&str]) -> Result<String, AllocError> {
     match word {
         "route" => shown(alloc, set_route(book, words)),
-        "use" => shown(alloc, book.set_usable(number, at(words, 2) == 1)),
-        "expect" => shown(
-            alloc,
-            book.expect(number, bytes_of(at(words, 2)), at(words, 3)),
-        ),
+        "use" => {
+            let takes = at(words, "takes") == 1;
+            shown(alloc, book.set_usable(channel_at(words), takes))
+        }
+        "expect" => {
+            let preimage = bytes_of(at(words, "preimage"));
+            let secret = bytes_of(at(words, "secret"));
+            shown(alloc, book.expect(preimage, secret, at(words, "amount")))
+        }
         "height" => {
             set_height(book, words);
             String::from_str(alloc, "done")
@@ -181,8 +222,8 @@ fn set(alloc: Global, book: &mut Book, word: &str, words: &[u64]) -> Result<Stri
 }
 
 // Whether a channel takes payments.
-fn usable(alloc: Global, book: &Book, words: &[u64]) -> Result<String, AllocError> {
-    if book.usable(&bytes_of(at(words, 1))) {
+fn usable(alloc: Global, book: &Book, words: &[&str]) -> Result<String, AllocError> {
+    if book.usable(&channel_at(words)) {
         String::from_str(alloc, "usable")
     } else {
         String::from_str(alloc, "not usable")
@@ -190,21 +231,48 @@ fn usable(alloc: Global, book: &Book, words: &[u64]) -> Result<String, AllocErro
 }
 
 // Payments there and back, so many, beside so many that wait.
-fn paid(alloc: Global, book: &mut Book, words: &[u64]) -> Result<String, AllocError> {
-    match payments(alloc, book, words) {
+fn paid(alloc: Global, book: &mut Book, words: &[&str]) -> Result<String, AllocError> {
+    match payments(alloc, book, at(words, "count"), at(words, "waiting")) {
         Err(_) => String::from_str(alloc, "refused"),
         Ok(given) => format!(in alloc; "given {given}"),
     }
 }
 
-/// Calls the book, or the ends of channels, by a line, and says what it answers. A line that begins with # is said
-/// again.
-pub fn call(alloc: Global, node: &mut Node, line: &str) -> Result<String, AllocError> {
-    let words = numbers(alloc, line)?;
-    let words = words.as_slice();
-    match line.split(' ').next().unwrap_or("") {
-        "#" => String::from_str(alloc, line),
-        word @ ("open"
+/// Calls the book, or the ends of channels, by the line of this number, and says what it answers, or the line's first
+/// fault. A line that begins with # is said again.
+pub fn call(alloc: Global, node: &mut Node, number: u64, line: &str) -> Result<String, AllocError> {
+    let words = words_of(alloc, line)?;
+    match words.as_slice() {
+        [word, values @ ..] if *word != "#" => call_by(alloc, node, number, word, values),
+        _ => String::from_str(alloc, line),
+    }
+}
+
+fn call_by(
+    alloc: Global,
+    node: &mut Node,
+    number: u64,
+    word: &str,
+    words: &[&str],
+) -> Result<String, AllocError> {
+    let Some(names) = names_of(word) else {
+        return String::from_str(alloc, "no call");
+    };
+    match first_fault(&names, words) {
+        Some(fault) => fault.text(alloc, number),
+        None => call_node(alloc, node, word, words),
+    }
+}
+
+fn call_node(
+    alloc: Global,
+    node: &mut Node,
+    word: &str,
+    words: &[&str],
+) -> Result<String, AllocError> {
+    match word {
+        "open"
+        | "opens"
         | "up"
         | "down"
         | "offer"
@@ -212,9 +280,9 @@ pub fn call(alloc: Global, node: &mut Node, line: &str) -> Result<String, AllocE
         | "sign"
         | "obey"
         | "settle"
-        | "restart") => { node.call(alloc, word, words) }
+        | "restart" => node.call(alloc, word, words),
         "hooks" => {
-            node.verdict = verdict_of(at(words, 1));
+            node.verdict = verdict_of(words);
             String::from_str(alloc, "done")
         }
         word => call_book(alloc, &mut node.book, word, words),
@@ -225,7 +293,7 @@ fn call_book(
     alloc: Global,
     book: &mut Book,
     word: &str,
-    words: &[u64],
+    words: &[&str],
 ) -> Result<String, AllocError> {
     match word {
         "decide" => decide(alloc, book, words),
@@ -241,6 +309,9 @@ fn call_book(
         "rebuild" => shown(alloc, book.rebuild(alloc, &[])),
         "usable" => usable(alloc, book, words),
         "payments" => paid(alloc, book, words),
+        word @ ("decides" | "resumes" | "drain" | "holding") => call_often(
+            alloc, book, word, words,
+        ),
         word => set(alloc, book, word, words),
     }
 }

@@ -1,5 +1,6 @@
 //! A node: its book, and the channels whose ends it asks.
 
+use crate::calls::{at, channel_at};
 use crate::ends::{Ends, Shown, Signing};
 use crate::onion::onion_of;
 use crate::show::show_command;
@@ -8,8 +9,9 @@ use ln_channel::Command;
 use ln_hooks::Verdict;
 use ln_keys::{ToyOnion, sha256_32};
 use ln_log::ChannelId;
+use ln_named_lines::value_of;
 use ln_refusals::Refusal;
-use ln_tests_ends::{at, bytes_of, wide};
+use ln_tests_ends::{bytes_of, wide};
 use std::alloc::{AllocError, Global};
 
 /// A channel of the node's.
@@ -42,24 +44,25 @@ fn note(
     Ok(all.len())
 }
 
-/// An HTLC that the peer offers: its amount, preimage and expiry, and the onion.
-fn offered(alloc: Global, words: &[u64]) -> Result<Command, AllocError> {
-    let hash = sha256_32(&bytes_of(at(words, 1)));
-    let onion = onion_of(alloc, words.get(3..).unwrap_or(&[]), &hash)?;
+/// An HTLC that the peer offers.
+fn offered(alloc: Global, words: &[&str]) -> Result<Command, AllocError> {
+    let hash = sha256_32(&bytes_of(at(words, "preimage")));
+    let onion = onion_of(alloc, words, &hash)?;
     Ok(Command::Add {
-        amount: at(words, 0),
+        amount: at(words, "amount"),
         hash,
-        expiry: wide(at(words, 2)),
+        expiry: wide(at(words, "expiry")),
         onion,
         origin: None,
     })
 }
 
-fn signing_of(number: u64) -> Signing {
-    match number {
-        0 => Signing::Own,
-        1 => Signing::Peer,
-        _ => Signing::Lost,
+fn signing_of(words: &[&str]) -> Result<Signing, Refusal> {
+    match value_of(words, "by").unwrap_or("") {
+        "own" => Ok(Signing::Own),
+        "peer" => Ok(Signing::Peer),
+        "lost" => Ok(Signing::Lost),
+        _ => Err(Refusal::BadScript { line: 0 }),
     }
 }
 
@@ -84,22 +87,21 @@ impl NodeChannel {
         &mut self,
         alloc: Global,
         word: &str,
-        words: &[u64],
+        words: &[&str],
         told: &mut Vec<Shown>,
     ) -> Result<(), Refusal> {
-        let rest = words.get(2..).unwrap_or(&[]);
         match word {
             "offer" => {
-                let add = offered(alloc, rest)?;
+                let add = offered(alloc, words)?;
                 self.ends.answer(alloc, add, told)
             }
             "pay" => {
-                let id = at(words, 2);
-                let preimage = bytes_of(at(words, 3));
+                let id = at(words, "id");
+                let preimage = bytes_of(at(words, "preimage"));
                 self.ends
                     .answer(alloc, Command::Fulfil { id, preimage }, told)
             }
-            "sign" => self.ends.sign(alloc, signing_of(at(words, 2)), told),
+            "sign" => self.ends.sign(alloc, signing_of(words)?, told),
             "up" => self.ends.connect(alloc, told),
             "settle" => self.ends.settle(alloc),
             _ => Err(Refusal::NotReady),
@@ -165,6 +167,16 @@ impl Node {
         )
     }
 
+    /// Opens so many channels, whose ids are the bytes of numbers from 256 on.
+    fn open_all(&mut self, alloc: Global, count: u64) -> Result<usize, Refusal> {
+        for number in 0..count {
+            let mut channel = [0; 32];
+            channel[..8].copy_from_slice(&number.wrapping_add(256).to_be_bytes());
+            self.open(alloc, channel)?;
+        }
+        Ok(self.channels.len())
+    }
+
     /// The index of a channel.
     fn index_of(&self, channel: &ChannelId) -> Result<usize, Refusal> {
         match self.channels.iter().position(|one| channel == &one.channel) {
@@ -174,8 +186,8 @@ impl Node {
     }
 
     /// A line of one channel's ends: how many events the node's end tells of.
-    fn play(&mut self, alloc: Global, word: &str, words: &[u64]) -> Result<usize, Refusal> {
-        let channel = bytes_of(at(words, 1));
+    fn play(&mut self, alloc: Global, word: &str, words: &[&str]) -> Result<usize, Refusal> {
+        let channel = channel_at(words);
         if word == "open" {
             return self.open(alloc, channel);
         }
@@ -243,8 +255,13 @@ impl Node {
     }
 
     /// A line of channels.
-    pub fn call(&mut self, alloc: Global, word: &str, words: &[u64]) -> Result<String, AllocError> {
-        let channel = bytes_of(at(words, 1));
+    pub fn call(
+        &mut self,
+        alloc: Global,
+        word: &str,
+        words: &[&str],
+    ) -> Result<String, AllocError> {
+        let channel = channel_at(words);
         if word == "obey" {
             return match self.obey(alloc, channel) {
                 Ok(shown) => Ok(shown),
@@ -253,6 +270,7 @@ impl Node {
         }
         let done = match word {
             "down" => self.down(alloc, channel),
+            "opens" => self.open_all(alloc, at(words, "count")),
             "restart" => self.restart(alloc),
             _ => self.play(alloc, word, words),
         };

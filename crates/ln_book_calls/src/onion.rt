@@ -1,10 +1,11 @@
-//! Onions of one or two hops, by numbers.
+//! Onions of one or two hops, by named numbers.
 
 ghost use Rattle.std.specs.Prelude.{◌≤◌};
 
+use crate::calls::at;
 use ln_bytes::Bytes;
 use ln_keys::ToyOnion;
-use ln_tests_ends::at;
+use ln_named_lines::number_of;
 use std::alloc::{AllocError, Global};
 
 /// Appends a number without leading zeros.
@@ -42,24 +43,24 @@ fn add_record(bytes: &mut Vec<u8>, typ: u8, number: u64) -> Result<(), AllocErro
     add_number(bytes, number)
 }
 
-/// The records that a mask names: an amount, an expiry, a short channel id, and a payment's secret with its total.
-fn payload_of(alloc: Global, words: &[u64]) -> Result<Vec<u8>, AllocError> {
-    let mask = at(words, 2);
+/// The records of those that a line names: an amount, an expiry, a short channel id, and a payment's secret with its
+/// total.
+fn payload_of(alloc: Global, words: &[&str]) -> Result<Vec<u8>, AllocError> {
     let mut bytes = Vec::new(alloc);
-    if mask % 2 == 1 {
-        add_record(&mut bytes, 2, at(words, 3))?;
+    if let Some(amount) = number_of(words, "forward_amount") {
+        add_record(&mut bytes, 2, amount)?;
     }
-    if mask / 2 % 2 == 1 {
-        add_record(&mut bytes, 4, at(words, 4))?;
+    if let Some(expiry) = number_of(words, "forward_expiry") {
+        add_record(&mut bytes, 4, expiry)?;
     }
-    if mask / 4 % 2 == 1 {
+    if let Some(id) = number_of(words, "short_id") {
         bytes.extend_from_slice(&[6, 8])?;
-        bytes.extend_from_slice(&at(words, 5).to_be_bytes())?;
+        bytes.extend_from_slice(&id.to_be_bytes())?;
     }
-    if mask / 8 % 2 == 1 {
-        add_payment(&mut bytes, at(words, 6), at(words, 7))?;
+    if let Some(secret) = number_of(words, "secret") {
+        add_payment(&mut bytes, secret, at(words, "total"))?;
     }
-    if at(words, 0) == 4 {
+    if at(words, "fault") == 4 {
         bytes.push(255)?;
     }
     Ok(bytes)
@@ -72,24 +73,24 @@ fn add_payment(bytes: &mut Vec<u8>, secret: u64, total: u64) -> Result<(), Alloc
 }
 
 /// The payloads: this hop's, and 2, 1, 5 for one behind it.
-fn payloads_of(alloc: Global, words: &[u64]) -> Result<Vec<Bytes>, AllocError> {
+fn payloads_of(alloc: Global, words: &[&str]) -> Result<Vec<Bytes>, AllocError> {
     let mut all = Vec::new(alloc);
     all.push(Bytes::new(payload_of(alloc, words)?))?;
-    if at(words, 1) == 0 {
+    if at(words, "final") == 0 {
         all.push(Bytes::from_slice(alloc, &[2, 1, 5])?)?;
     }
     Ok(all)
 }
 
-/// The onion of these numbers: a fault (0 none, 1 its version, 2 its key, 3 its HMAC, 4 its payload), whether the hop
-/// is the final one, and the payload's records.
-pub fn onion_of(alloc: Global, words: &[u64], hash: &[u8; 32]) -> Result<[u8; 1366], AllocError> {
+/// The onion of a line's numbers: its fault (0 none, 1 its version, 2 its key, 3 its HMAC, 4 its payload), whether the
+/// hop is the final one, and the payload's records.
+pub fn onion_of(alloc: Global, words: &[&str], hash: &[u8; 32]) -> Result<[u8; 1366], AllocError> {
     let payloads = payloads_of(alloc, words)?;
     let mut onion = match ToyOnion::make(payloads.as_slice(), hash) {
         None => [0; 1366],
         Some(onion) => onion,
     };
-    match at(words, 0) {
+    match at(words, "fault") {
         1 => onion[0] = 1,
         2 => onion[1] = 3,
         3 => onion[1365] = onion[1365] ^ 1,

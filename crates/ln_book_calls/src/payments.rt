@@ -5,7 +5,7 @@ use ln_bytes::Bytes;
 use ln_hooks::{ChannelEvent, How, Msat, Verdict};
 use ln_keys::{Onion, OpenFault, Opened};
 use ln_refusals::Refusal;
-use ln_tests_ends::{at, bytes_of};
+use ln_tests_ends::bytes_of;
 use std::alloc::Global;
 
 /// An onion whose payload is known, and which goes on as it is.
@@ -102,15 +102,14 @@ fn settle(alloc: Global, book: &mut Book, onion: &KnownOnion, id: u64) -> Result
 }
 
 /// So many payments there and back, beside so many that wait; says how many commands were given, at most 2^64 - 1.
-pub fn payments(alloc: Global, book: &mut Book, words: &[u64]) -> Result<u64, Refusal> {
+pub fn payments(alloc: Global, book: &mut Book, count: u64, waiting: u64) -> Result<u64, Refusal> {
     let payload = Vec::from_slice(alloc, &PAYLOAD)?;
     let onion = KnownOnion { payload };
-    let waiting = at(words, 2);
     let mut given = 0u64;
     for id in 0..waiting {
         given = given.saturating_add(offer(alloc, book, &onion, id)?);
     }
-    for _ in 0..at(words, 1) {
+    for _ in 0..count {
         given = given.saturating_add(offer(alloc, book, &onion, waiting)?);
         given = given.saturating_add(settle(alloc, book, &onion, waiting)?);
     }

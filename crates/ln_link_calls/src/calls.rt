@@ -4,13 +4,27 @@ use crate::channel::{again, renew};
 use crate::commands::{command, is_command};
 use crate::end::End;
 use crate::line::bytes_of_parts;
+use crate::names::names_of;
 use crate::show::{pending, record, refused, shown, stand, told_by_record};
 use ln_bytes::Fault;
 use ln_msgs::{Incoming, Message, decode};
+use ln_named_lines::{first_fault, number_or, value_of, words_of};
 use ln_store::RecordStore;
-use ln_tests_ends::{at, numbers};
 use std::alloc::{AllocError, Global};
 use std::fmt::Write;
+
+/// The number that a line gives a name, 0 where it gives none.
+pub fn at(words: &[&str], name: &str) -> u64 {
+    number_or(words, name, 0)
+}
+
+/// The text that it gives one, the empty one where it gives none.
+pub fn text_at<'a>(words: &[&'a str], name: &str) -> &'a str {
+    match value_of(words, name) {
+        Some(text) => text,
+        None => "",
+    }
+}
 
 fn is_error(message: &Message) -> bool {
     match message {
@@ -75,8 +89,8 @@ fn front(alloc: Global, x: &End) -> Result<String, AllocError> {
 }
 
 /// An end takes a message that is given in parts.
-fn give(alloc: Global, x: &mut End, y: &mut End, line: &str) -> Result<String, AllocError> {
-    match bytes_of_parts(alloc, line)? {
+fn give(alloc: Global, x: &mut End, y: &mut End, words: &[&str]) -> Result<String, AllocError> {
+    match bytes_of_parts(alloc, text_at(words, "bytes"))? {
         None => String::from_str(alloc, "not hex"),
         Some(bytes) => take(alloc, x, y, bytes.as_slice()),
     }
@@ -92,8 +106,8 @@ fn load(alloc: Global, x: &mut End, y: &mut End) -> Result<String, AllocError> {
 }
 
 /// Bytes that are given in parts, behind a channel's id, take the place of an end's record: how many.
-fn store(alloc: Global, x: &mut End, y: &mut End, line: &str) -> Result<String, AllocError> {
-    let Some(bytes) = bytes_of_parts(alloc, line)? else {
+fn store(alloc: Global, x: &mut End, y: &mut End, words: &[&str]) -> Result<String, AllocError> {
+    let Some(bytes) = bytes_of_parts(alloc, text_at(words, "bytes"))? else {
         return String::from_str(alloc, "not hex");
     };
     let Some((id, record)) = bytes.split_first_chunk::<32>() else {
@@ -108,10 +122,14 @@ fn store(alloc: Global, x: &mut End, y: &mut End, line: &str) -> Result<String, 
     }
 }
 
-/// An end's save of this number fails, counted from 0, and leaves the old record or the new one.
-fn fail(alloc: Global, x: &mut End, line: &str, words: &[u64]) -> Result<String, AllocError> {
-    let leaves_new = line.split(' ').nth(3) == Some("new");
-    x.store.fail_at(at(words, 2), leaves_new);
+/// An end's save after so many others fails, and leaves the old record or the new one.
+fn fail(alloc: Global, x: &mut End, words: &[&str]) -> Result<String, AllocError> {
+    let leaves_new = match text_at(words, "record") {
+        "old" => false,
+        "new" => true,
+        _ => return String::from_str(alloc, "neither old nor new"),
+    };
+    x.store.fail_at(at(words, "after"), leaves_new);
     String::from_str(alloc, "done")
 }
 
@@ -153,8 +171,7 @@ fn act(
     x: &mut End,
     y: &mut End,
     word: &str,
-    line: &str,
-    words: &[u64],
+    words: &[&str],
 ) -> Result<String, AllocError> {
     if is_command(word) {
         return command(alloc, x, y, word, words);
@@ -163,11 +180,11 @@ fn act(
         "front" => front(alloc, x),
         "deliver" => deliver(alloc, x, y),
         "pass" => pass(alloc, x, y),
-        "give" => give(alloc, x, y, line),
+        "give" => give(alloc, x, y, words),
         "record" => record(alloc, x),
         "ledger" | "shape" => told_by_record(alloc, x, word),
-        "store" => store(alloc, x, y, line),
-        "fails" => fail(alloc, x, line, words),
+        "store" => store(alloc, x, y, words),
+        "fails" => fail(alloc, x, words),
         "stand" => stand(alloc, x),
         "pending" => pending(alloc, x),
         word => connection(alloc, x, y, word),
@@ -177,30 +194,59 @@ fn act(
 fn act_by(
     alloc: Global,
     ends: &mut [Box<End>],
-    line: &str,
-    words: &[u64],
+    word: &str,
+    words: &[&str],
 ) -> Result<String, AllocError> {
-    let mut parts = line.split(' ');
-    let word = parts.next().unwrap_or("");
-    let end = parts.next().unwrap_or("");
     let [a, b] = ends else {
         return String::from_str(alloc, "no channel");
     };
-    match end {
-        "A" => act(alloc, a, b, word, line, words),
-        "B" => act(alloc, b, a, word, line, words),
+    match text_at(words, "end") {
+        "A" => act(alloc, a, b, word, words),
+        "B" => act(alloc, b, a, word, words),
         _ => String::from_str(alloc, "no end"),
     }
 }
 
-/// Does what a line says, and says what is answered. A line that begins with # is said again.
-pub fn call(alloc: Global, ends: &mut Vec<Box<End>>, line: &str) -> Result<String, AllocError> {
-    let words = numbers(alloc, line)?;
-    let words = words.as_slice();
-    match line.split(' ').next().unwrap_or("") {
-        "#" => String::from_str(alloc, line),
-        word @ ("new" | "made" | "ready") => renew(alloc, ends, word, line),
-        "again" => again(alloc, ends, line),
-        _ => act_by(alloc, ends.as_mut_slice(), line, words),
+fn drive(
+    alloc: Global,
+    ends: &mut Vec<Box<End>>,
+    word: &str,
+    words: &[&str],
+) -> Result<String, AllocError> {
+    match word {
+        "new" | "made" | "ready" => renew(alloc, ends, word, words),
+        "again" => again(alloc, ends, words),
+        _ => act_by(alloc, ends.as_mut_slice(), word, words),
+    }
+}
+
+fn call_by(
+    alloc: Global,
+    ends: &mut Vec<Box<End>>,
+    number: u64,
+    word: &str,
+    words: &[&str],
+) -> Result<String, AllocError> {
+    let Some(names) = names_of(word) else {
+        return String::from_str(alloc, "no line");
+    };
+    match first_fault(&names, words) {
+        Some(fault) => fault.text(alloc, number),
+        None => drive(alloc, ends, word, words),
+    }
+}
+
+/// Does what the line of this number says, and says what is answered, or the line's first fault. A line that begins
+/// with # is said again.
+pub fn call(
+    alloc: Global,
+    ends: &mut Vec<Box<End>>,
+    number: u64,
+    line: &str,
+) -> Result<String, AllocError> {
+    let words = words_of(alloc, line)?;
+    match words.as_slice() {
+        [word, values @ ..] if *word != "#" => call_by(alloc, ends, number, word, values),
+        _ => String::from_str(alloc, line),
     }
 }

@@ -1,23 +1,21 @@
 //! New ends of a channel, and how far they come.
 
-use crate::calls::pass;
+use crate::calls::{pass, text_at};
 use crate::commands::command;
 use crate::end::End;
-use crate::opening::{USUAL, fundee, funder};
+use crate::opening::{fundee, funder};
 use crate::show::shown;
-use ln_tests_ends::numbers;
 use std::alloc::{AllocError, Global};
 use std::mem;
 
 /// The two ends of a channel of a line's numbers; none where a value doesn't fit.
-fn made(alloc: Global, line: &str) -> Result<Option<Vec<Box<End>>>, AllocError> {
-    let words = numbers(alloc, line)?;
+fn made(alloc: Global, words: &[&str]) -> Result<Option<Vec<Box<End>>>, AllocError> {
     let mut ends = Vec::new(alloc);
-    let Some(a) = funder(alloc, words.as_slice())? else {
+    let Some(a) = funder(alloc, words)? else {
         return Ok(None);
     };
     ends.push(a)?;
-    let Some(b) = fundee(alloc, words.as_slice())? else {
+    let Some(b) = fundee(alloc, words)? else {
         return Ok(None);
     };
     ends.push(b)?;
@@ -58,14 +56,14 @@ fn begun(
     }
 }
 
-/// New ends of a line's numbers; of the usual ones where it is its word alone.
+/// New ends of a line's numbers, and of the usual ones where it names none.
 pub fn renew(
     alloc: Global,
     ends: &mut Vec<Box<End>>,
     word: &str,
-    line: &str,
+    words: &[&str],
 ) -> Result<String, AllocError> {
-    match made(alloc, if line == word { USUAL } else { line })? {
+    match made(alloc, words)? {
         None => String::from_str(alloc, "unfit"),
         Some(others) => begun(alloc, ends, others, word),
     }
@@ -83,9 +81,13 @@ fn keep_store(old: &mut [Box<End>], new: &mut [Box<End>], name: Option<char>) {
 }
 
 /// New ends of the usual numbers, of which one has the store of before.
-pub fn again(alloc: Global, ends: &mut Vec<Box<End>>, line: &str) -> Result<String, AllocError> {
-    let name = line.split(' ').nth(1).unwrap_or("").chars().next();
-    let Some(mut others) = made(alloc, USUAL)? else {
+pub fn again(
+    alloc: Global,
+    ends: &mut Vec<Box<End>>,
+    words: &[&str],
+) -> Result<String, AllocError> {
+    let name = text_at(words, "end").chars().next();
+    let Some(mut others) = made(alloc, &[])? else {
         return String::from_str(alloc, "unfit");
     };
     keep_store(ends.as_mut_slice(), others.as_mut_slice(), name);

@@ -1,5 +1,6 @@
-//! Commands of an end, by numbers.
+//! Commands of an end, by named values.
 
+use crate::calls::{at, text_at};
 use crate::end::End;
 use crate::line::filled;
 use crate::show::shown;
@@ -7,26 +8,27 @@ use ln_bytes::{Bytes, ShortId};
 use ln_channel::Command;
 use ln_keys::sha256_32;
 use ln_log::Mark;
-use ln_tests_ends::{at, bytes_of, code, wide};
+use ln_tests_ends::{bytes_of, code, wide};
 use std::alloc::{AllocError, Global};
 
-/// What is done about an event: nothing, a forward to channel 7, a failure, a malformed one, a fulfilment; or its HTLC
-/// is held by its number, or by the next one.
-fn mark_of(alloc: Global, event: u64, number: u64) -> Result<Mark, AllocError> {
-    let mark = match number {
-        0 => Mark::None,
-        1 => Mark::Forward {
+/// What is done about an event, by its word: nothing, a forward to channel 7, a failure, a malformed one, a fulfilment;
+/// or its HTLC is held by its number, or by the next one. None of another word.
+fn mark_of(alloc: Global, event: u64, word: &str) -> Result<Option<Mark>, AllocError> {
+    let mark = match word {
+        "none" => Mark::None,
+        "forward" => Mark::Forward {
             channel: [7; 32],
             amount: 5,
             expiry: 6,
         },
-        2 => Mark::Fail(Bytes::new(filled(alloc, 2, 2)?)),
-        3 => Mark::Malformed(0xc004),
-        5 => Mark::Held(event),
-        6 => Mark::Held(event.wrapping_add(1)),
-        _ => Mark::Fulfil([4; 32]),
+        "fail" => Mark::Fail(Bytes::new(filled(alloc, 2, 2)?)),
+        "malformed" => Mark::Malformed(0xc004),
+        "fulfil" => Mark::Fulfil([4; 32]),
+        "held" => Mark::Held(event),
+        "held_next" => Mark::Held(event.wrapping_add(1)),
+        _ => return Ok(None),
     };
-    Ok(mark)
+    Ok(Some(mark))
 }
 
 /// The incoming HTLC of channel 7 that an add forwards, where its number isn't 0.
@@ -38,61 +40,73 @@ fn origin_of(number: u64) -> Option<([u8; 32], u64)> {
     }
 }
 
-/// An HTLC: its amount, its expiry, what stands for its preimage, and what it forwards.
-fn add_of(words: &[u64]) -> Command {
+/// An HTLC, by its amount, its expiry, what stands for its preimage, and what it forwards.
+fn add_of(words: &[&str]) -> Command {
     Command::Add {
-        amount: at(words, 2),
-        hash: sha256_32(&bytes_of(at(words, 4))),
-        expiry: wide(at(words, 3)),
+        amount: at(words, "amount"),
+        hash: sha256_32(&bytes_of(at(words, "preimage"))),
+        expiry: wide(at(words, "expiry")),
         onion: [0; 1366],
-        origin: origin_of(at(words, 5)),
+        origin: origin_of(at(words, "origin")),
     }
 }
 
 /// A command that needs no memory; to sign for any other.
-fn light(word: &str, words: &[u64]) -> Command {
+fn light(word: &str, words: &[&str]) -> Command {
     match word {
         "confirm" => Command::Confirm(ShortId::from_bytes(&[0, 0, 1, 0, 0, 1, 0, 0])),
         "add" => add_of(words),
         "fulfil" => Command::Fulfil {
-            id: at(words, 2),
-            preimage: bytes_of(at(words, 3)),
+            id: at(words, "id"),
+            preimage: bytes_of(at(words, "preimage")),
         },
         "malformed" => Command::Malformed {
-            id: at(words, 2),
+            id: at(words, "id"),
             sha: [0; 32],
-            code: code(at(words, 3)),
+            code: code(at(words, "code")),
         },
-        "fee" => Command::Fee(wide(at(words, 2))),
-        "forget" => Command::Forget(at(words, 2)),
+        "fee" => Command::Fee(wide(at(words, "rate"))),
+        "forget" => Command::Forget(at(words, "id")),
         _ => Command::Sign,
     }
 }
 
-/// A command by its word: of `fail` the length of the reason, of `shutdown` that of the script and its byte.
-fn command_of(alloc: Global, word: &str, words: &[u64]) -> Result<Box<Command>, AllocError> {
+/// What is decided about an event, at once or on a resume. None where its mark is none.
+fn decided_of(
+    alloc: Global,
+    word: &str,
+    words: &[&str],
+) -> Result<Option<Box<Command>>, AllocError> {
+    let event = at(words, "event");
+    let Some(mark) = mark_of(alloc, event, text_at(words, "mark"))? else {
+        return Ok(None);
+    };
+    if word == "resume" {
+        return Ok(Some(Box::new(alloc, Command::Resume { event, mark })?));
+    }
+    Ok(Some(Box::new(alloc, Command::Decide { event, mark })?))
+}
+
+/// A command by its word: of `fail` the length of the reason, of `shutdown` that of the script and its byte. None where
+/// its mark is none.
+fn command_of(
+    alloc: Global,
+    word: &str,
+    words: &[&str],
+) -> Result<Option<Box<Command>>, AllocError> {
     match word {
         "fail" => {
-            let reason = Bytes::new(filled(alloc, 1, at(words, 3))?);
-            let id = at(words, 2);
-            Ok(Box::new(alloc, Command::Fail { id, reason })?)
+            let reason = Bytes::new(filled(alloc, 1, at(words, "length"))?);
+            let id = at(words, "id");
+            Ok(Some(Box::new(alloc, Command::Fail { id, reason })?))
         }
         "shutdown" => {
-            let byte = (at(words, 3) % 256) as u8;
-            let script = Bytes::new(filled(alloc, byte, at(words, 2))?);
-            Ok(Box::new(alloc, Command::Shutdown(script))?)
+            let byte = (at(words, "byte") % 256) as u8;
+            let script = Bytes::new(filled(alloc, byte, at(words, "length"))?);
+            Ok(Some(Box::new(alloc, Command::Shutdown(script))?))
         }
-        "decide" => {
-            let event = at(words, 2);
-            let mark = mark_of(alloc, event, at(words, 3))?;
-            Ok(Box::new(alloc, Command::Decide { event, mark })?)
-        }
-        "resume" => {
-            let event = at(words, 2);
-            let mark = mark_of(alloc, event, at(words, 3))?;
-            Ok(Box::new(alloc, Command::Resume { event, mark })?)
-        }
-        word => Ok(Box::new(alloc, light(word, words))?),
+        "decide" | "resume" => decided_of(alloc, word, words),
+        word => Ok(Some(Box::new(alloc, light(word, words))?)),
     }
 }
 
@@ -102,9 +116,11 @@ pub fn command(
     x: &mut End,
     y: &mut End,
     word: &str,
-    words: &[u64],
+    words: &[&str],
 ) -> Result<String, AllocError> {
-    let command = command_of(alloc, word, words)?;
+    let Some(command) = command_of(alloc, word, words)? else {
+        return String::from_str(alloc, "no mark");
+    };
     let answer = x
         .link
         .command(alloc, &mut *x.store, Box::into_inner(command));

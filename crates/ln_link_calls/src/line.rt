@@ -1,4 +1,4 @@
-//! The bytes of a line.
+//! Bytes that a line names.
 
 use hex::FromHexError;
 use std::alloc::{AllocError, Global};
@@ -17,10 +17,10 @@ fn put_part(alloc: Global, bytes: &mut Vec<u8>, part: &str) -> Result<bool, Allo
     Ok(true)
 }
 
-/// The bytes of the parts behind a line's first two words; none where one isn't hexadecimal.
-pub fn bytes_of_parts(alloc: Global, line: &str) -> Result<Option<Vec<u8>>, AllocError> {
+/// The bytes of parts with commas between; none where one isn't hexadecimal.
+pub fn bytes_of_parts(alloc: Global, parts: &str) -> Result<Option<Vec<u8>>, AllocError> {
     let mut bytes = Vec::new(alloc);
-    for part in line.split(' ').skip(2) {
+    for part in parts.split(',') {
         if !put_part(alloc, &mut bytes, part)? {
             return Ok(None);
         }

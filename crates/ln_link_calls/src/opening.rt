@@ -1,4 +1,4 @@
-//! The two ends of a new channel, by numbers.
+//! The two ends of a new channel, by named numbers.
 
 use crate::end::End;
 use crate::line::filled;
@@ -8,7 +8,8 @@ use ln_keys::ToyKeys;
 use ln_link::Link;
 use ln_log::Limits;
 use ln_msgs::Records;
-use ln_tests_ends::{at, bytes_of, code};
+use ln_named_lines::number_or;
+use ln_tests_ends::{bytes_of, code};
 use std::alloc::{AllocError, Global};
 
 /// What a line doesn't say of a side: its points are bytes from one on, its script is one byte.
@@ -37,10 +38,44 @@ const FUNDEE: Own = Own {
     script: 66,
 };
 
-/// The line of a channel whose line is its word alone: satoshis, pushed millisatoshis, seed and channel type, then the
-/// funder's numbers and the fundee's.
-pub const USUAL: &str =
-    "new 1000000 0 1 0 1 30 1000000000000 0 300 200 400 1 30 1000000000000 0 400 350 500";
+/// What a line says of a side: its limits, and its first, least and greatest closing fee.
+#[derive(Clone, Copy)]
+struct Terms {
+    limits: Limits,
+    first: u64,
+    least: u64,
+    greatest: u64,
+}
+
+/// The funder's terms: what a line leaves out is as usual.
+fn funder_terms(words: &[&str]) -> Terms {
+    Terms {
+        limits: Limits {
+            minimum: number_or(words, "a_minimum", 1),
+            accepted: code(number_or(words, "a_accepted", 30)),
+            in_flight: number_or(words, "a_in_flight", 1_000_000_000_000),
+            reserve: number_or(words, "a_reserve", 0),
+        },
+        first: number_or(words, "a_fee", 300),
+        least: number_or(words, "a_least", 200),
+        greatest: number_or(words, "a_greatest", 400),
+    }
+}
+
+/// The fundee's.
+fn fundee_terms(words: &[&str]) -> Terms {
+    Terms {
+        limits: Limits {
+            minimum: number_or(words, "b_minimum", 1),
+            accepted: code(number_or(words, "b_accepted", 30)),
+            in_flight: number_or(words, "b_in_flight", 1_000_000_000_000),
+            reserve: number_or(words, "b_reserve", 0),
+        },
+        first: number_or(words, "b_fee", 400),
+        least: number_or(words, "b_least", 350),
+        greatest: number_or(words, "b_greatest", 500),
+    }
+}
 
 fn points(first: u8) -> Points {
     Points {
@@ -52,27 +87,21 @@ fn points(first: u8) -> Points {
     }
 }
 
-/// What a side opens channels with: its minimum, count, sum and reserve, then its first, least and greatest closing
-/// fee.
-fn config(alloc: Global, own: &Own, words: &[u64]) -> Result<Box<Config>, AllocError> {
+/// What a side opens channels with.
+fn config(alloc: Global, own: &Own, terms: &Terms) -> Result<Box<Config>, AllocError> {
     let script = Bytes::new(filled(alloc, own.script, 1)?);
     let config = Box::new(
         alloc,
         Config {
-            limits: Limits {
-                minimum: at(words, 0),
-                accepted: code(at(words, 1)),
-                in_flight: at(words, 2),
-                reserve: at(words, 3),
-            },
+            limits: terms.limits,
             chain_hash: [6; 32],
             dust_limit: own.dust_limit,
             to_self_delay: own.to_self_delay,
             minimum_depth: own.minimum_depth,
             points: points(own.first_point),
-            first: at(words, 4),
-            least: at(words, 5),
-            greatest: at(words, 6),
+            first: terms.first,
+            least: terms.least,
+            greatest: terms.greatest,
             script,
         },
     )?;
@@ -103,15 +132,15 @@ fn records(alloc: Global, count: u64) -> Result<Records, AllocError> {
     Ok(Records::new(all))
 }
 
-fn spec(alloc: Global, words: &[u64]) -> Result<Box<OpenSpec>, AllocError> {
-    let records = records(alloc, at(words, 4))?;
-    let config = config(alloc, &FUNDER, words.get(5..).unwrap_or(&[]))?;
+fn spec(alloc: Global, words: &[&str]) -> Result<Box<OpenSpec>, AllocError> {
+    let records = records(alloc, number_or(words, "types", 0))?;
+    let config = config(alloc, &FUNDER, &funder_terms(words))?;
     let spec = Box::new(
         alloc,
         OpenSpec {
             config: Box::into_inner(config),
-            funding: at(words, 1),
-            push: at(words, 2),
+            funding: number_or(words, "funding", 1_000_000),
+            push: number_or(words, "push", 0),
             feerate: 253,
             flags: 1,
             temporary_id: [255; 32],
@@ -124,12 +153,12 @@ fn spec(alloc: Global, words: &[u64]) -> Result<Box<OpenSpec>, AllocError> {
 }
 
 /// The funder's end; none where a value doesn't fit.
-pub fn funder(alloc: Global, words: &[u64]) -> Result<Option<Box<End>>, AllocError> {
+pub fn funder(alloc: Global, words: &[&str]) -> Result<Option<Box<End>>, AllocError> {
     let spec = spec(alloc, words)?;
     if !spec.fits() {
         return Ok(None);
     }
-    let keys = keys(at(words, 3), 1, 2);
+    let keys = keys(number_or(words, "seed", 1), 1, 2);
     let link = Box::new(
         alloc,
         Link::funder(keys, FitSpec::new(Box::into_inner(spec))),
@@ -138,12 +167,12 @@ pub fn funder(alloc: Global, words: &[u64]) -> Result<Option<Box<End>>, AllocErr
 }
 
 /// The fundee's.
-pub fn fundee(alloc: Global, words: &[u64]) -> Result<Option<Box<End>>, AllocError> {
-    let config = config(alloc, &FUNDEE, words.get(12..).unwrap_or(&[]))?;
+pub fn fundee(alloc: Global, words: &[&str]) -> Result<Option<Box<End>>, AllocError> {
+    let config = config(alloc, &FUNDEE, &fundee_terms(words))?;
     if !config.fits() {
         return Ok(None);
     }
-    let keys = keys(at(words, 3), 2, 1);
+    let keys = keys(number_or(words, "seed", 1), 2, 1);
     let link = Box::new(
         alloc,
         Link::fundee(keys, FitConfig::new(Box::into_inner(config))),
