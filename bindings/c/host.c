@@ -275,17 +275,21 @@ static void answer(struct end *end, const struct bytes *m, struct bytes *out) {
     }
 }
 
-void settle(struct end *one, struct end *other) {
+int settle_some(struct end *one, struct end *other, size_t most) {
     static struct bytes answered;
     struct end *end;
     while (one->first != one->last || other->first != other->last) {
+        if (most-- == 0) return 0;
         end = one->first != one->last ? one : other;
         struct bytes *m = &end->inbox[end->first++ % INBOX];
         answer(end, m, &answered);
         done(lnl_message(&end->link, m->at, m->n, answered.at, answered.n), "message");
         hand_out(end);
     }
+    return 1;
 }
+
+void settle(struct end *one, struct end *other) { settle_some(one, other, SIZE_MAX); }
 
 void give(struct end *end, const struct bytes *command, const char *what) {
     done(lnl_command(&end->link, command->at, command->n), what);

@@ -53,4 +53,7 @@ void give(struct end *end, const struct bytes *command, const char *what);
 /* Delivers messages until none is in flight. */
 void settle(struct end *one, struct end *other);
 
+/* The same, so many at most: whether none is in flight. */
+int settle_some(struct end *one, struct end *other, size_t most);
+
 #endif

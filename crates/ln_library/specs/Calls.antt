@@ -4,24 +4,46 @@ use Rattle.std.specs.Prelude.{if◌then◌else◌}
 use Rattle.ln_msgs.specs.declared.messages.message.Message.{Message}
 use Rattle.ln_refusals.specs.declared.refusal.Refusal.{Refusal}
 use Rattle.ln_refusals.specs.declared.refusal.Refusal.TheVariants as refusal
+use Rattle.ln_msgs.specs.Messages.Message.{wire_bytes}
+use Rattle.ln_msgs.specs.Messages.Typed.{wire}
 use Rattle.ln_channel.specs.declared.command.Command.{Command}
+use Rattle.ln_channel.specs.declared.machine.Stage.{Stage}
 use Rattle.ln_channel.specs.State.{State}
 use Rattle.ln_host.specs.declared.answer.HostRefusal.{HostRefusal}
 use Rattle.ln_host.specs.declared.answer.HostRefusal.TheVariants as host
 use Rattle.ln_host.specs.declared.keys.HostKeys.{HostKeys}
+use Rattle.ln_host.specs.declared.line.Head.{Head}
+use Rattle.ln_host.specs.declared.line.Head.TheVariants as head
+use Rattle.ln_host.specs.declared.line.Told.{Told}
+use Rattle.ln_host.specs.declared.line.Told.TheVariants as told
 use Rattle.ln_host.specs.declared.question.Question.{Question}
 use Rattle.ln_host.specs.declared.record.HostRecord.{HostRecord}
 use Rattle.ln_host.specs.Hearing.{IsHeard, by_link}
-use Rattle.ln_host.specs.Hosted.{Seat, IsObeyed}
+use Rattle.ln_host.specs.Hosted.{Seat, IsObeyed, new_hosted, funded, host_record}
+use Rattle.ln_host.specs.Line.{IsHead}
 use Rattle.ln_host.specs.Question.{question_of}
 use Rattle.ln_host.specs.Seats.{ComesBack, IsRefusedRecord}
 use Rattle.ln_wire.specs.Commands.{command_form}
 use Rattle.ln_wire.specs.Forms.{Gives, whole_in, written_in}
-use Rattle.ln_wire.specs.Items.{saved as saved_form}
+use Rattle.ln_wire.specs.Items.{saved as saved_form, item_form}
+use Rattle.ln_wire.specs.declared.items.Item.TheVariants as item
 use Rattle.ln_wire.specs.Questions.{question_form}
-use Rattle.ln_library.specs.Messages.{Reads}
+use Rattle.ln_library.specs.Messages.{Reads, IsWritable, CannotBeWritten}
 
 -- ---- a link that begins, by what was read, where that is fit for it, and by a point of 33 bytes
+
+-- bytes of another number than this are answered by 81
+abbrev pub exactly : ℕ → List ℕ → Result (List ℕ) HostRefusal
+exactly n bytes = if length bytes == n then Ok bytes else Err host.Answer
+
+-- a new link of ln_host, at the stage of what was read
+pub record Begins {A : Type 0} (Fits : A → Type 0) (stage_of : A → Stage) (read : Result A Refusal) (point : List ℕ)
+    (s : Seat) : Type 0 where
+  pub value : A
+  pub is_read : read ≡ Ok value
+  pub fits : Fits value
+  pub point_length : length point ≡ 33
+  pub seat : s ≡ new_hosted point (stage_of value)
 
 -- the bytes are none, or what they are isn't fit: 40
 abbrev pub IsUnfit : {A : Type 0} → (A → Type 0) → Result A Refusal → HostRefusal → Type 0
@@ -95,3 +117,36 @@ pub record Obeys (bytes : List ℕ) (result : Result (Unit {0}) Refusal) (old ne
 
 abbrev pub funding_row : List ℕ → Result (Unit {0}) Refusal → Result (Unit {0}) HostRefusal
 funding_row txid answer = if length txid == 32 then by_link answer else Err host.Answer
+
+abbrev pub funded_by : List ℕ → ℕ → Seat → Seat
+funded_by txid output s = if length txid == 32 then funded txid output s else s
+
+-- ---- what stands first in the line, as an item
+
+-- a message as its bytes
+abbrev pub Sends : {V : Type 0} → (V → List ℕ) → Message → Result V Refusal → Type 0
+Sends view m (Ok v) =
+    (written_in item_form (item.Send (wire_bytes (wire m))) ≡ Ok (view v)) × IsWritable (wire m)
+Sends view m (Err e) = (e ≡ refusal.Memory) ⊎ ((e ≡ refusal.TooLong) × CannotBeWritten (wire m))
+
+abbrev pub record_bytes : Option HostRecord → Result (List ℕ) Refusal
+record_bytes None = Ok []
+record_bytes (Some r) = written_in item_form (item.Record r)
+
+abbrev pub told_bytes : Told → Result (List ℕ) Refusal
+told_bytes (told.Event n e) = written_in item_form (item.Event n e)
+told_bytes (told.Closed fee) = written_in item_form (item.Closed fee)
+
+-- the record is what waits to be saved; where nothing waits there are no bytes, for which no memory is wanted
+abbrev pub ShowsHead : {V : Type 0} → (V → List ℕ) → Seat → Option Head → Result V Refusal → Type 0
+ShowsHead view s None (Ok v) = view v ≡ []
+ShowsHead view s None (Err e) = ⊥
+ShowsHead view s (Some head.Record) result = Gives view result (record_bytes (host_record s))
+ShowsHead view s (Some (head.Blank b)) result = Gives view result (written_in item_form (item.Blank b.now))
+ShowsHead view s (Some (head.Send m)) result = Sends view m.now result
+ShowsHead view s (Some (head.Told t)) result = Gives view result (told_bytes t.now)
+
+pub record Shows {V : Type 0} (view : V → List ℕ) (s : Seat) (result : Result V Refusal) : Type 0 where
+  pub head : Option Head
+  pub is_head : IsHead s.line head
+  pub shows : ShowsHead view s head result

@@ -1,2 +1,4 @@
 pub mod Messages
+pub mod Greetings
+pub mod Looks
 pub mod Calls

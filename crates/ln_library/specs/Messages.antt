@@ -1,5 +1,5 @@
 -- Messages as the bytes that pass between peers.
-use Rattle.std.specs.Prelude.{◌≡◌, ◌⊎◌, ◌<◌, ℕ, List, length, Option, Some, None, Result, Ok, Err, ⊤}
+use Rattle.std.specs.Prelude.{◌≡◌, ◌⊎◌, ◌<◌, ◌≤◌, ℕ, List, length, Option, Some, None, Result, Ok, Err, ⊤}
 use Rattle.ln_bytes.specs.declared.fault.Fault.{Fault}
 use Rattle.ln_msgs.specs.Codec.Writing.{CanBeWritten}
 use Rattle.ln_msgs.specs.Messages.Message.{Wire, Heard, Known, Ignored, message_at, wire_bytes}
@@ -24,11 +24,27 @@ abbrev pub Reads : List ℕ → Result (Option Message) Refusal → Type 0
 Reads bytes (Ok m) = Says (message_at bytes) m
 Reads bytes (Err e) = (e ≡ refusal.Memory) ⊎ IsFirstFault (message_at bytes) e
 
--- no bytes of a message: its records may not stand behind its fields, or it is too long
+-- what is answered of the message that bytes are; their first fault where they are none
+abbrev pub AnswersBy : {A : Type 0} → (Option Message → Result A Refusal → Type 0) → Result (Option Message) Refusal
+    → Result A Refusal → Type 0
+AnswersBy By (Ok m) result = By m result
+AnswersBy By (Err e) result = result ≡ Err e
+
+pub record Answers {A : Type 0} (By : Option Message → Result A Refusal → Type 0) (bytes : List ℕ)
+    (result : Result A Refusal) : Type 0 where
+  pub message : Result (Option Message) Refusal
+  pub is_read : Reads bytes message
+  pub answers : AnswersBy By message result
+
+-- its records may stand after its fields, and it isn't too long
+abbrev pub IsWritable : Wire → Type 0
+IsWritable w = CanBeWritten w × (length (wire_bytes w) ≤ 65535)
+
+-- no bytes of a message: its records may not stand after its fields, or it is too long
 abbrev pub CannotBeWritten : Wire → Type 0
 CannotBeWritten w = ¬ CanBeWritten w ⊎ (65535 < length (wire_bytes w))
 
 -- the bytes of a message, seen by view
 abbrev pub Writes : {V : Type 0} → (V → List ℕ) → Message → Result V Refusal → Type 0
-Writes view m (Ok v) = view v ≡ wire_bytes (wire m)
+Writes view m (Ok v) = (view v ≡ wire_bytes (wire m)) × IsWritable (wire m)
 Writes view m (Err e) = (e ≡ refusal.Memory) ⊎ ((e ≡ refusal.TooLong) × CannotBeWritten (wire m))

@@ -1,7 +1,12 @@
 //! What of a connection is of no channel (BOLT 1).
 
-ghost use Rattle.std.specs.Prelude.{◌≡◌, ◌⊎◌, ℕ, length, Ok, Err};
-ghost use Rattle.ln_library.specs.Messages.{Reads, Writes};
+ghost use Rattle.std.specs.Prelude.{◌≡◌, Ok};
+ghost use Rattle.ln_library.specs.Greetings.{init_of, Greets, ChecksInit, are_shared, is_among, shares_with};
+ghost use Rattle.ln_library.specs.Greetings.{chain_answer, Pongs, id_bytes, text_of};
+ghost use Rattle.ln_library.specs.Messages.{Reads, Answers, Writes};
+ghost use Rattle.ln_bytes.specs.Tlv as tlv;
+ghost use Rattle.ln_msgs.specs.Messages.Message.{message_at};
+ghost use Rattle.ln_wire.specs.Forms.{Gives};
 
 use ln_bytes::value_of;
 use ln_host::{channel_of, init_with, pong_to};
@@ -37,7 +42,9 @@ pub(crate) fn written(alloc: Global, message: &Message) -> Result<Vec<u8>, Refus
 
 /// An `init` with these features and these chains, as `ln_host::init_with` makes it. Errors: 8 where the chains
 /// aren't 32 bytes each, 7 where they are too long, 60.
-pub fn init(alloc: Global, features: &[u8], chains: &[u8]) -> Result<Vec<u8>, Refusal> {
+pub fn init(alloc: Global, features: &[u8], chains: &[u8]) -> Result<Vec<u8>, Refusal>
+    ensures greets { Greets (λ v. v.items) (init_of features.now chains.now) result }
+{
     if chains.len() % 32 != 0 {
         return Err(Refusal::FieldLength);
     }
@@ -50,7 +57,9 @@ pub fn init(alloc: Global, features: &[u8], chains: &[u8]) -> Result<Vec<u8>, Re
 
 /// Whether a node that knows these even feature bits may go on with the peer that sent this `init`. Errors: 9 where
 /// it asks for another even bit; 21 where the message is no `init`; the first fault of its bytes, 1 to 8; 60.
-pub fn check_init(alloc: Global, message: &[u8], known_even_bits: &[u16]) -> Result<(), Refusal> {
+pub fn check_init(alloc: Global, message: &[u8], known_even_bits: &[u16]) -> Result<(), Refusal>
+    ensures checks { Answers (ChecksInit known_even_bits.now) message.now result }
+{
     let message = read(alloc, message)?;
     match &message {
         Some(Message::Init(init)) => match ln_msgs::check_init(init, known_even_bits) {
@@ -61,33 +70,44 @@ pub fn check_init(alloc: Global, message: &[u8], known_even_bits: &[u16]) -> Res
     }
 }
 
-// Whether one of the chains is among these.
-fn is_among(chain: &[u8], chains: &[u8]) -> bool {
-    for other in chains.chunks(32) {
-        if chain == other {
+// Whether the chain is among these.
+fn is_among(chain: &[u8], chains: &[u8]) -> bool
+    ensures { result ≡ is_among chain.now chains.now }
+{
+    for place in 0..chains.len() / 32 {
+        if chain == &chains[32 * place..32 * place + 32] {
             return true;
         }
     }
     false
 }
 
-fn shares(init: &Init, chains: &[u8]) -> bool {
+// Whether one of the networks is among these chains.
+fn are_shared(networks: &[u8], chains: &[u8]) -> bool
+    ensures { result ≡ are_shared networks.now chains.now }
+{
+    for place in 0..networks.len() / 32 {
+        if is_among(&networks[32 * place..32 * place + 32], chains) {
+            return true;
+        }
+    }
+    false
+}
+
+fn shares(init: &Init, chains: &[u8]) -> bool
+    ensures { result ≡ shares_with chains.now (tlv.value_of 1 init.now.records) }
+{
     match value_of(init.records.as_slice(), 1) {
         None => true,
-        Some(networks) => {
-            for chain in networks.chunks(32) {
-                if is_among(chain, chains) {
-                    return true;
-                }
-            }
-            false
-        }
+        Some(networks) => are_shared(networks, chains),
     }
 }
 
 /// Whether the peer that sent this `init` names no networks, or one of these chains, 32 bytes each (BOLT 1, "The `init`
 /// Message"). Errors: 21 where it names others alone, or the message is no `init`; the first fault of its bytes; 60.
-pub fn shares_chain(alloc: Global, message: &[u8], chains: &[u8]) -> Result<(), Refusal> {
+pub fn shares_chain(alloc: Global, message: &[u8], chains: &[u8]) -> Result<(), Refusal>
+    ensures answers { Answers (λ m r. r ≡ chain_answer chains.now m) message.now result }
+{
     let message = read(alloc, message)?;
     match &message {
         Some(Message::Init(init)) if shares(init, chains) => Ok(()),
@@ -97,7 +117,9 @@ pub fn shares_chain(alloc: Global, message: &[u8], chains: &[u8]) -> Result<(), 
 
 /// The answer to a ping; no bytes where none is wanted. Errors: 21 where the message is no ping; the first fault of its
 /// bytes, 1 to 8; 60.
-pub fn pong(alloc: Global, message: &[u8]) -> Result<Vec<u8>, Refusal> {
+pub fn pong(alloc: Global, message: &[u8]) -> Result<Vec<u8>, Refusal>
+    ensures pongs { Answers (Pongs (λ v. v.items)) message.now result }
+{
     let message = read(alloc, message)?;
     match &message {
         Some(Message::Ping(ping)) => match pong_to(alloc, ping)? {
@@ -110,7 +132,9 @@ pub fn pong(alloc: Global, message: &[u8]) -> Result<Vec<u8>, Refusal> {
 
 /// The id of the channel that a message is for, 32 bytes; no bytes of a message of no channel. Errors: the first
 /// fault of the message's bytes, 1 to 8; 60.
-pub fn channel(alloc: Global, message: &[u8]) -> Result<Vec<u8>, Refusal> {
+pub fn channel(alloc: Global, message: &[u8]) -> Result<Vec<u8>, Refusal>
+    ensures id { Answers (λ m r. Gives (λ v. v.items) r (Ok (id_bytes m))) message.now result }
+{
     let message = read(alloc, message)?;
     match &message {
         None => Ok(Vec::new(alloc)),
@@ -122,7 +146,9 @@ pub fn channel(alloc: Global, message: &[u8]) -> Result<Vec<u8>, Refusal> {
 }
 
 /// What a message says, as `lnlink decode` prints it. Errors: the first fault of its bytes, 1 to 8; 60.
-pub fn print(alloc: Global, message: &[u8]) -> Result<Vec<u8>, Refusal> {
+pub fn print(alloc: Global, message: &[u8]) -> Result<Vec<u8>, Refusal>
+    ensures text { Gives (λ v. v.items) result (text_of (message_at message.now)) }
+{
     let incoming = match decode(alloc, message) {
         Ok(incoming) => incoming,
         Err(fault) => return Err(Refusal::from(fault)),
