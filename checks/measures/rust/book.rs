@@ -282,7 +282,8 @@ fn main() {
     let mut book = Book::default();
     for line in io::stdin().lock().lines() {
         let line = line.unwrap();
-        let words: Vec<&str> = line.split(' ').collect();
+        // the names of values stand in one order
+        let words: Vec<&str> = line.split(' ').map(|it| it.split_once('=').map_or(it, |pair| pair.1)).collect();
         let n = |place: usize| words.get(place).and_then(|it| it.parse().ok()).unwrap_or(0u64);
         match words[0] {
             "route" => {

@@ -1002,7 +1002,8 @@ fn renew(words: &[u64], text: &mut String) -> Option<[Link; 2]> {
 }
 
 fn call(ends: &mut Option<[Link; 2]>, line: &str, text: &mut String) {
-    let mut words = line.split(' ');
+    // the names of values stand in one order
+    let mut words = line.split(' ').map(|it| it.split_once('=').map_or(it, |pair| pair.1));
     let word = words.next().unwrap_or("");
     if word == "new" {
         let numbers: Vec<u64> = words.map(|it| it.parse().unwrap_or(0)).collect();

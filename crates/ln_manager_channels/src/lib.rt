@@ -1,0 +1,16 @@
+//! The links of a node's channels and its book of payments, moved one step after the other: what one call makes of
+//! both together (BOLT 2, "Forwarding HTLCs").
+#![tactic(auto)]
+
+mod channels;
+mod events;
+mod given;
+mod moves;
+mod newest;
+mod saved;
+
+pub use channels::Channels;
+pub use events::event_count;
+pub use given::Given;
+pub use newest::Newest;
+pub use saved::Saved;
