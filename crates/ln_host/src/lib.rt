@@ -24,3 +24,4 @@ pub use laws::{hosted_lines_are_lines, saved_before_sent};
 pub use line::{Head, Line, Outgoing, Told};
 pub use question::{Question, question_about};
 pub use record::{HeldSignatures, HostRecord, PeerSecret};
+pub use seen::{Seen, seen_in};
