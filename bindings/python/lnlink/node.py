@@ -80,8 +80,8 @@ class Node:
         self._obey(library.lnl_node_message, channel, message, len(message), answer, len(answer))
 
     def command(self, channel: int, command: Command) -> None:
-        """A channel does what it is told: Confirm, Add without an origin, Fee, Sign, Shutdown. Others are the node's own:
-        40."""
+        """A channel does what it is told: Confirm, Add without an origin, Fee, Sign, Shutdown. 40 for others, which are
+        the node's own."""
         data = command.to_bytes()
         self._obey(library.lnl_node_command, channel, data, len(data))
 
@@ -120,7 +120,7 @@ class Node:
         self._obey(library.lnl_node_onion, payment_hash, len(payment_hash), onion, len(onion), data, len(data))
 
     def verdict(self, channel: int, event: int, verdict: Verdict) -> None:
-        """What is to be done about an event. 80: its onion isn't answered; 40: it isn't handed out, or decided before."""
+        """What is to be done about an event. 80: its onion isn't answered; 40: it isn't handed out, or was decided."""
         data = verdict.to_bytes()
         self._obey(library.lnl_node_verdict, channel, event, data, len(data))
 

@@ -10,7 +10,8 @@ from .commands import Command
 from .config import Config, OpenSpec
 from .items import BlankItem, Event, Record, Send
 from .node import Node, Settings
-from .node_items import Batch, GoOn, HeldHtlc, NodeEvent, NodeItem, NodeMessage, OnionFound, OnionItem, Verdict, WrapItem
+from .node_items import Batch, GoOn, HeldHtlc, NodeEvent, NodeItem, NodeMessage, OnionFound, OnionItem, Verdict
+from .node_items import WrapItem
 from .refusals import Refused
 from .views import Commitment, Summary, View
 
@@ -35,8 +36,8 @@ class Onions(Protocol):
         """What is in an onion (BOLT 4, "Onion Decryption")."""
 
     def wrap(self, item: WrapItem) -> bytes:
-        """A failure as it goes back (BOLT 4, "Returning Errors"): `item.incoming` has the onion whose shared secret wraps
-        it. One of the node's own is padded and authenticated first."""
+        """A failure as it goes back (BOLT 4, "Returning Errors"): `item.incoming` has the onion whose shared secret
+        wraps it. One of the node's own is padded and authenticated first."""
 
 
 OnVerdict = Callable[[int, int, Event], "Verdict | None"]

@@ -1,5 +1,5 @@
-"""Forwarding: one Electrum pays another over a node of ours, with real keys and onions. Each case by name, with our side
-as funder and as fundee of both channels."""
+"""Forwarding: one Electrum pays another over a node of ours, with real keys and onions. Each case by name, with our
+side as funder and as fundee of both channels."""
 import electrum_side as el
 import lnlink
 from cases import case

@@ -127,10 +127,14 @@ fn has_number(waiting: Option<&Waiting<Posted>>, number: u64) -> bool {
 }
 
 impl HostNode {
+    ghost use Rattle.std.specs.Prelude.{◌≡◌};
+
     // ---- what stands first
 
     // A batch that was closed is written, by what its channels have now.
-    pub(crate) fn write_batch(&mut self, alloc: Global) -> Result<(), Refusal> {
+    pub(crate) fn write_batch(&mut self, alloc: Global) -> Result<(), Refusal>
+        ensures manager_stays { self.new.manager ≡ self.old.manager }
+    {
         let (item, channels) = match &self.closed {
             None => return Ok(()),
             Some(batch) => {
@@ -309,9 +313,17 @@ impl HostNode {
 }
 
 impl HostNode {
+    ghost use Rattle.std.specs.Prelude.{◌≡◌, true, None, OnOk, OnErr};
+    ghost use Rattle.ln_batches.specs.Queues.{saved, is_closed};
+
     /// The batch of this number is saved, and synced: what waited for it may leave. Errors: 40 where it isn't the batch
     /// that the host has seen last, or was saved before; 60; nothing has changed then.
-    pub fn saved(&mut self, alloc: Global, batch: u64) -> Result<(), Refusal> {
+    pub fn saved(&mut self, alloc: Global, batch: u64) -> Result<(), Refusal>
+        ensures only_what_the_host_has_seen { OnOk result ((self.old.closed ≡ None) × (self.old.written ≡ None)) }
+        ensures saved { OnOk result (self.new.manager.lines ≡ saved self.old.manager.lines) }
+        ensures only_the_closed_one { OnOk result (is_closed batch self.old.manager.lines ≡ true) }
+        ensures lines_stay_if_refused { OnErr result (self.new.manager.lines ≡ self.old.manager.lines) }
+    {
         if self.closed.is_some() || self.written.is_some() {
             return Err(Refusal::NotReady);
         }

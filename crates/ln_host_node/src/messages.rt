@@ -43,8 +43,11 @@ fn is_taken(seen: &Seen, numbers: Numbers) -> bool {
 }
 
 impl HostNode {
-    /// The question about a message to a channel; no bytes where there is none. It is that of a link, but for one: a node
-    /// knows itself which channels there are. Errors: 40 where there is no such channel; the first fault of the
+    ghost use Rattle.std.specs.Prelude.{◌≡◌, ◌⊎◌, Err};
+    ghost use Rattle.ln_host.specs.declared.answer.HostRefusal.TheVariants as host;
+
+    /// The question about a message to a channel; no bytes where there is none. It is that of a link, but for one: a
+    /// node knows itself which channels there are. Errors: 40 where there is no such channel; the first fault of the
     /// message's bytes, 1 to 9; 60.
     pub fn question(
         &self,
@@ -75,7 +78,10 @@ impl HostNode {
         channel: usize,
         message: &[u8],
         answer: &[u8],
-    ) -> Result<(), HostRefusal> {
+    ) -> Result<(), HostRefusal>
+        ensures nothing_is_given_without_its_answer { ((result ≡ Err host.Asks) ⊎ (result ≡ Err host.Answer))
+            → self.new.manager ≡ self.old.manager }
+    {
         self.write_batch(alloc)?;
         match read(alloc, message)? {
             None => Ok(()),
@@ -104,9 +110,15 @@ impl HostNode {
         channel: usize,
         message: Message,
         answer: &[u8],
-    ) -> Result<(), HostRefusal> {
+    ) -> Result<(), HostRefusal>
+        ensures nothing_is_given_without_its_answer { ((result ≡ Err host.Asks) ⊎ (result ≡ Err host.Answer))
+            → self.new.manager ≡ self.old.manager }
+    {
         match self.heard(alloc, channel, &message, answer) {
-            Ok((answer, seen)) => self.give(alloc, channel, message, answer, seen),
+            Ok((answer, seen)) => match self.give(alloc, channel, message, answer, seen) {
+                Ok(()) => Ok(()),
+                Err(refusal) => Err(HostRefusal::Refused(refusal)),
+            },
             Err(refusal) => {
                 drop(message);
                 Err(refusal)
@@ -132,21 +144,18 @@ impl HostNode {
         message: Message,
         answer: Answer,
         seen: Seen,
-    ) -> Result<(), HostRefusal> {
+    ) -> Result<(), Refusal> {
         let keys = match self.keys_for(channel, answer) {
             Ok(keys) => keys,
             Err(refusal) => {
                 drop(message);
                 drop(seen);
-                return Err(HostRefusal::Refused(refusal));
+                return Err(refusal);
             }
         };
         let done = self.manager.message(alloc, channel, keys, message);
         self.keep(channel, seen);
-        match done {
-            Ok(()) => Ok(()),
-            Err(refusal) => Err(HostRefusal::Refused(refusal)),
-        }
+        done
     }
 
     // The numbers of a channel.

@@ -38,8 +38,8 @@ pub(crate) struct Handed {
 }
 
 /// A routing node without threads whose host brings keys, onions, disk and sockets. Channels are told by their numbers
-/// 0, 1, .. in the order in which they were loaded, opened or accepted. What calls make is handed out item by item: what
-/// is to be saved, messages with what is blank in them, onions to be opened, and events to be decided.
+/// 0, 1, .. in the order in which they were loaded, opened or accepted. What calls make is handed out item by item:
+/// what is to be saved, messages with what is blank in them, onions to be opened, and events to be decided.
 pub struct HostNode {
     pub(crate) manager: Manager<HostKeys, HostOnions>,
     pub(crate) seats: Vec<Seat>,

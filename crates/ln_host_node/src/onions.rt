@@ -158,8 +158,8 @@ impl HostNode {
         }
     }
 
-    /// An HTLC that the peer of a channel offered is gone, and with it what was told of its onion, unless another one has
-    /// it. Takes no memory.
+    /// An HTLC that the peer of a channel offered is gone, and with it what was told of its onion, unless another one
+    /// has it. Takes no memory.
     pub(crate) fn forget_onion(&mut self, channel: usize, id: u64) {
         let Some(name) = self.asked_name(channel, id) else {
             return;

@@ -10,6 +10,9 @@ use ln_wire::{decode_config, decode_spec};
 use std::alloc::Global;
 
 impl HostNode {
+    ghost use Rattle.std.specs.Prelude.{◌≡◌, true, Err};
+    ghost use Rattle.ln_host.specs.declared.answer.HostRefusal.TheVariants as host;
+
     // A seat for the next channel, whose first point is this.
     fn make_seat(&mut self, alloc: Global, first_point: [u8; 33]) -> Result<(), Refusal> {
         let channel = self.manager.channel_count();
@@ -79,9 +82,11 @@ impl HostNode {
 
     /// There is a connection to the peer of a channel: `Link::connect`.
     ///
-    /// Errors: 80 while an onion that was asked for after the load isn't known; 40 where there is no such channel; those
-    /// of that call.
-    pub fn connect(&mut self, alloc: Global, channel: usize) -> Result<(), HostRefusal> {
+    /// Errors: 80 while an onion that was asked for after the load isn't known; 40 where there is no such channel;
+    /// those of that call.
+    pub fn connect(&mut self, alloc: Global, channel: usize) -> Result<(), HostRefusal>
+        ensures onions_come_first { self.old.is_loading ≡ true → result ≡ Err host.Asks }
+    {
         if self.is_loading {
             return Err(HostRefusal::Asks);
         }

@@ -143,6 +143,11 @@ fn filling_of(alloc: Global, blank: &Blank, bytes: &[u8]) -> Result<Filling, Hos
 }
 
 impl HostNode {
+    ghost use Rattle.std.specs.Prelude.{◌≡◌, true, OnOk, OnErr};
+    ghost use Rattle.ln_batches.specs.Queues.{first_at, may_leave, is_with_host, sent};
+    ghost use Rattle.ln_host_node.specs.declared.seat.Shown.TheVariants as shown;
+    ghost use Rattle.ln_host_node.specs.Shown.{shown_at};
+
     // The failure of this message as its host has wrapped it.
     fn wrapped(&self, handed: Handed) -> Option<&Wrapped> {
         match self.seats.get(handed.channel) {
@@ -250,14 +255,18 @@ impl HostNode {
     }
 
     // The message of a channel that the host has.
-    fn shown_of(&self, channel: usize) -> Shown {
+    fn shown_of(&self, channel: usize) -> Shown
+        ensures { result ≡ shown_at channel self.now.seats.items }
+    {
         match self.seats.get(channel) {
             None => Shown::Nothing,
             Some(seat) => seat.shown,
         }
     }
 
-    fn set_shown(&mut self, channel: usize, shown: Shown) {
+    fn set_shown(&mut self, channel: usize, shown: Shown)
+        ensures manager_stays { self.new.manager ≡ self.old.manager }
+    {
         if let Some(seat) = self.seats.get_mut(channel) {
             seat.shown = shown;
         }
@@ -306,8 +315,8 @@ impl HostNode {
         Ok(())
     }
 
-    /// What the host gives for a message that it has to fill or to wrap, by its channel and its number: it comes again to
-    /// be sent.
+    /// What the host gives for a message that it has to fill or to wrap, by its channel and its number: it comes again
+    /// to be sent.
     ///
     /// Errors: 40 where the host has no such message to fill; 81 where the bytes are none of what is blank; 60. Nothing
     /// has changed then.
@@ -317,7 +326,10 @@ impl HostNode {
         channel: usize,
         message: u64,
         bytes: &[u8],
-    ) -> Result<(), HostRefusal> {
+    ) -> Result<(), HostRefusal>
+        ensures only_what_was_handed_out_to_fill { OnOk result
+            (shown_at channel self.old.seats.items ≡ shown.Blank message) }
+    {
         let number = message;
         let handed = Handed { channel, number };
         if self.shown_of(channel) != Shown::Blank(message) || !self.is_there(handed) {
@@ -333,7 +345,14 @@ impl HostNode {
 
     /// The message of this number of a channel, which the host has to send, has left. Errors: 40 where it has no such
     /// message; 60. Nothing has changed then.
-    pub fn sent(&mut self, channel: usize, message: u64) -> Result<(), Refusal> {
+    pub fn sent(&mut self, channel: usize, message: u64) -> Result<(), Refusal>
+        ensures only_what_was_handed_out_to_send { OnOk result
+            (shown_at channel self.old.seats.items ≡ shown.Send message) }
+        ensures has_left { OnOk result (self.new.manager.lines ≡ sent channel self.old.manager.lines) }
+        ensures only_what_may { OnOk result ((is_with_host channel message self.old.manager.lines ≡ true)
+            × (may_leave self.old.manager.lines (first_at channel self.old.manager.lines) ≡ true)) }
+        ensures lines_stay_if_refused { OnErr result (self.new.manager.lines ≡ self.old.manager.lines) }
+    {
         if self.shown_of(channel) != Shown::Send(message) {
             return Err(Refusal::NotReady);
         }

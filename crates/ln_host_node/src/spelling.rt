@@ -19,8 +19,8 @@ pub(crate) struct Settings {
     pub(crate) mark: [u8; 32],
 }
 
-/// `fee_base_msat` in four bytes, `fee_proportional_millionths` in four, `cltv_expiry_delta` in two, and the mark of 32.
-/// Error: 70 where the bytes aren't these.
+/// `fee_base_msat` in four bytes, `fee_proportional_millionths` in four, `cltv_expiry_delta` in two, and the mark of
+/// 32. Error: 70 where the bytes aren't these.
 pub(crate) fn settings_of(bytes: &[u8]) -> Result<Settings, Refusal> {
     let (base, rest) = u32_at(bytes)?;
     let (proportional, rest) = u32_at(rest)?;

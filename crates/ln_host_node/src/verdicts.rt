@@ -39,8 +39,8 @@ impl HostNode {
 
     /// What the host says of the event of a channel that is with it: `Manager::verdict`.
     ///
-    /// Errors: 81 where the bytes are no verdict; 80 where a payment is to go on whose onion isn't known yet; nothing has
-    /// changed then. Else those of that call.
+    /// Errors: 81 where the bytes are no verdict; 80 where a payment is to go on whose onion isn't known yet; nothing
+    /// has changed then. Else those of that call.
     pub fn verdict(
         &mut self,
         alloc: Global,
@@ -111,8 +111,8 @@ impl HostNode {
 
     /// What the host says of an HTLC that a channel holds by the number of this event: `Manager::resume`.
     ///
-    /// Errors: 81 where the bytes are no verdict; 80 where it is to go on and its onion isn't known; nothing has changed
-    /// then. Else those of that call.
+    /// Errors: 81 where the bytes are no verdict; 80 where it is to go on and its onion isn't known; nothing has
+    /// changed then. Else those of that call.
     pub fn resume(
         &mut self,
         alloc: Global,
@@ -128,8 +128,8 @@ impl HostNode {
         Ok(())
     }
 
-    /// The HTLCs that are held, each by its channel's number, the event's, its id and its amount in millisatoshi in eight
-    /// bytes each, its payment hash in 32 and its expiry in four. Error: 60 alone.
+    /// The HTLCs that are held, each by its channel's number, the event's, its id and its amount in millisatoshi in
+    /// eight bytes each, its payment hash in 32 and its expiry in four. Error: 60 alone.
     pub fn held(&self, alloc: Global) -> Result<Vec<u8>, Refusal> {
         let mut out = Vec::new(alloc);
         for htlc in self.held_htlcs(alloc)? {
