@@ -2,6 +2,7 @@
 
 from __future__ import annotations
 
+from collections import deque
 from threading import RLock
 from typing import Callable, Protocol, Sequence
 
@@ -78,6 +79,7 @@ class RoutingNode:
         self._lock = RLock()
         self._in_turn = False
         self._item: NodeItem | None = None  # one that wasn't dealt with, as something raised
+        self._waiting: deque[NodeEvent] | None = None  # events, until a loaded node begins
 
     @classmethod
     def load(
@@ -90,12 +92,22 @@ class RoutingNode:
         on_event: OnVerdict = _go_on,
     ) -> RoutingNode:
         """The node of all records that the store has, a new one where it has none. The channels' numbers count these
-        records from 0. `signer_of` answers the signer of a channel by its id. Events that weren't decided are told."""
+        records from 0. `signer_of` answers the signer of a channel by its id. No event is told before `begin`."""
         saved = store.load_all()
         node = Node.load(settings, [record for _, record in saved])
         loaded = cls(node, [signer_of(channel) for channel, _ in saved], store, onions, send, on_event)
+        loaded._waiting = deque()
         loaded.flush()
         return loaded
+
+    def begin(self) -> None:
+        """Tells of events, after a load: once the height and the payments that are waited for are told again, and the
+        channels are connected. A payment that is to leave by a channel that isn't fails by 0x1007. Does nothing
+        later."""
+        with self._lock:
+            while self._waiting:
+                self._turn(self._tell_first)
+            self._waiting = None
 
     def open(self, spec: OpenSpec, signer: Signer) -> int:
         """A channel that this side asks for: its number. `connect` sends open_channel."""
@@ -214,8 +226,19 @@ class RoutingNode:
                 self.node.onion(*item.incoming, self._onions.open(*item.incoming))
         else:
             assert isinstance(item, NodeEvent)
-            verdict = self._on_event(item.channel, item.item.number, item.item.event)
-            self.node.verdict(item.channel, item.item.number, verdict or GoOn())
+            if self._waiting is None:
+                self._tell(item)
+            else:
+                self._waiting.append(item)
+
+    def _tell_first(self) -> None:
+        assert self._waiting is not None
+        self._tell(self._waiting[0])
+        self._waiting.popleft()
+
+    def _tell(self, item: NodeEvent) -> None:
+        verdict = self._on_event(item.channel, item.item.number, item.item.event)
+        self.node.verdict(item.channel, item.item.number, verdict or GoOn())
 
     def _take_message(self, item: NodeMessage) -> None:
         if isinstance(item.item, BlankItem):

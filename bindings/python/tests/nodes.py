@@ -262,6 +262,8 @@ class Line:
             if not self.settle():
                 self.connect()
                 continue
+            for hop in self.hops:
+                hop.node.begin()
             worked = self.offer()
             for hop in self.hops:
                 hop.node.sign()
