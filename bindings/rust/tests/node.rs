@@ -1,6 +1,10 @@
-//! A routing node without a peer: what its calls answer, and the items that it hands out as bytes.
+//! A routing node without a peer, and three of them, with real signatures, that pay over the middle one.
 
-use lnlink::{Config, Node, NodeItem, OnionFound, Refused, Settings, Verdict};
+mod common;
+
+use common::nodes::{Line, AMOUNT, FEE};
+use common::sha256::sha256;
+use lnlink::{Config, How, Node, NodeItem, OnionFound, Refused, Settings, Verdict};
 
 const SETTINGS: Settings =
     Settings { fee_base_msat: 1000, fee_proportional_millionths: 100, cltv_expiry_delta: 40, mark: [7; 32] };
@@ -83,4 +87,33 @@ fn items_are_read_from_their_bytes() {
     for bytes in [&[][..], &[9], &[2, 0, 0], &[5, 0]] {
         assert!(NodeItem::from_bytes(bytes).is_err());
     }
+}
+
+#[test]
+fn forwards_and_passes_failures_back() {
+    let mut line = Line::opened();
+    let before = line.own_msat();
+    line.pay([1; 32], true);
+    line.pay([2; 32], false);
+    let [paid, failed] = &line.hops[0].settled[..] else { panic!("{:?}", line.hops[0].settled) };
+    assert_eq!(*paid, How::Fulfilled { payment_preimage: [1; 32] });
+    let How::Failed { reason } = failed else { panic!("{failed:?}") };
+    assert!(reason.starts_with(b"middle passes on: payee says: \x40\x0f"));
+    assert_eq!(line.own_msat(), [before[0] - AMOUNT - FEE, before[1] + FEE, before[2] + AMOUNT]);
+}
+
+#[test]
+fn holds_over_a_restart() {
+    let mut line = Line::opened();
+    line.hops[1].hold = true;
+    line.pay([1; 32], true);
+    line.hops[1].restart();
+    line.cut();
+    line.connect();
+    assert!(line.hops[0].settled.is_empty());
+    let held = line.hops[1].node.held().unwrap();
+    assert_eq!((held.len(), held[0].payment_hash), (1, sha256(&[1; 32])));
+    line.hops[1].node.resume(held[0].channel as usize, held[0].event, &Verdict::GoOn).unwrap();
+    line.settle();
+    assert_eq!(line.hops[0].settled, [How::Fulfilled { payment_preimage: [1; 32] }]);
 }
