@@ -1,5 +1,8 @@
 //! Messages of peers, and what a host commands.
 
+ghost use Rattle.std.specs.Prelude.{◌≡◌};
+ghost use Rattle.ln_host_node.specs.Asked.{asked};
+
 use crate::node::HostNode;
 use crate::seat::Seat;
 use ln_channel::ChannelMachine;
@@ -13,7 +16,9 @@ use ln_wire::{decode_command, encode_question};
 use std::alloc::Global;
 
 // What a node asks: it knows itself which channels there are.
-fn asked(question: Option<Question>) -> Option<Question> {
+fn asked(question: Option<Question>) -> Option<Question>
+    ensures { result ≡ asked question }
+{
     match question {
         Some(Question::New(_)) => None,
         Some(Question::First { channel: _, view }) => Some(Question::Signatures {
