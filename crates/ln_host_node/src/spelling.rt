@@ -48,7 +48,10 @@ fn record_at(alloc: Global, bytes: &[u8]) -> Result<(HostRecord, &[u8]), Refusal
 pub(crate) fn records_at(alloc: Global, bytes: &[u8]) -> Result<Vec<HostRecord>, Refusal> {
     let mut records = Vec::new(alloc);
     let mut rest = bytes;
-    while !rest.is_empty() {
+    for _ in 0..u64::MAX {
+        if rest.is_empty() {
+            return Ok(records);
+        }
         let (record, after) = record_at(alloc, rest)?;
         records.push(record)?;
         rest = after;
