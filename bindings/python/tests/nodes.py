@@ -194,6 +194,8 @@ class Line:
             for hop in self.sides[channel]:
                 hop.node.command(hop.numbers[channel], Confirm(SHORT_IDS[channel]))
         self.settle()
+        for hop in self.hops:
+            hop.node.begin()
         return self
 
     def connect(self) -> None:

@@ -2,13 +2,14 @@
 
 from __future__ import annotations
 
+import random
 import tempfile
 import unittest
 from dataclasses import replace
 from pathlib import Path
 from typing import Callable
 
-from lnlink import Added, Failed, FailPayment, Fulfilled, GoOn, Hold, Node, OnionItem, Refused
+from lnlink import Add, Added, Failed, FailPayment, Fulfilled, GoOn, Hold, Node, OnionItem, Refused, Status
 
 from nodes import LEFT, RIGHT, SETTINGS, Line, amount_of, fee_of
 from ends import StoreFails
@@ -49,6 +50,40 @@ class RoutingTest(unittest.TestCase):
         # Each onion is asked for once, at each node that it reaches.
         self.assertEqual(len(line.middle.onions.opened), 25)
         self.assertEqual(len(line.payee.onions.opened), 25)
+
+    def test_two_htlcs_of_one_onion(self) -> None:
+        """Their onion is asked for once, and known until both are gone."""
+        line = self.line()
+        line.pay(0)
+        line.to_pay *= 2
+        line.run()
+        self.assertEqual(len(line.middle.onions.opened), 1)
+        self.assertEqual(list(line.results()), [0, 1])
+        line.pay(0)
+        line.run()
+        self.assertEqual(len(line.middle.onions.opened), 2)
+        self.assertEqual(list(line.results()), [0, 1, 2])
+
+    def test_hostile_peer_of_one_channel(self) -> None:
+        """Whatever a peer sends, its channel answers by a number, and the other channel goes on."""
+        line = self.line()
+        channel = line.middle.numbers[LEFT]
+        chance = random.Random(1)
+        for _ in range(300):
+            kind = chance.choice([1, 17, 32, 33, 34, 35, 36, 38, 39, 128, 130, 131, 132, 133, 134, 135, 136])
+            fields = LEFT + chance.randbytes(chance.randrange(200))
+            try:
+                line.middle.node.receive(channel, kind.to_bytes(2, "big") + fields)
+            except Refused as refused:
+                self.assertIn(refused.number, range(1, 50))
+        line.middle.outbox.clear()
+        self.assertEqual(line.payee.node.summary(0).status, Status.READY)
+        line.middle.node.command(line.middle.numbers[RIGHT], Add(10_000, bytes(32), 500, bytes(1366)))
+        for hop in (line.middle, line.payee) * 3:
+            hop.node.sign()
+            line.settle()
+        self.assertEqual(line.payee.node.summary(0).live_htlcs, 0)  # the payee has failed it
+        self.assertEqual(line.middle.node.summary(line.middle.numbers[RIGHT]).next_htlc_id, 1)
 
     def test_failure_of_the_payee_is_passed_on(self) -> None:
         line = self.line()
