@@ -1,4 +1,5 @@
-/* lnlink for C: one end of a Lightning channel without sockets, disk and keys, which its host brings.
+/* lnlink for C: one end of a Lightning channel, or a routing node of many, without sockets, disk and keys, which their
+ * host brings.
  *
  * Built for x86-64 Linux. C99, and C++.
  *
@@ -17,8 +18,8 @@
  * Saved before said. What calls make is handed out in one line: lnl_next shows its head, lnl_done takes it off. A
  * record, where there is one, stands before all else, and the newest stands for all that weren't taken off. It is saved
  * and synced before lnl_done: nothing that it covers can be sent before. lnl_done stands for what lnl_next showed last:
- * where lnl_message, lnl_command, lnl_connect, lnl_disconnect or lnl_done came between, it is 40 and nothing has changed;
- * lnl_next then shows what stands first now. A call that answers LNL_ASKS or LNL_ANSWER doesn't come between.
+ * where lnl_message, lnl_command, lnl_connect, lnl_disconnect or lnl_done came between, it is 40 and nothing has
+ * changed; lnl_next then shows what stands first now. A call that answers LNL_ASKS or LNL_ANSWER doesn't come between.
  *
  * What a host keeps. With each record it saves, in the same transaction,
  *   - the whole item after its kind: lnl_load takes just these bytes;
@@ -152,6 +153,104 @@ int32_t lnl_look(lnl_link *link, uint8_t *out, size_t room, size_t *n);
 /* The view of a commitment: which = 0 the own one, 1 the peer's, 2 the one that the command Sign would sign, 3 the one
  * that the peer's next signature covers. */
 int32_t lnl_view(lnl_link *link, uint8_t which, uint8_t *out, size_t room, size_t *n);
+
+/* A node ---------------------------------------------------------------------------------------------------------- */
+
+/* A routing node: many channels, told by their numbers 0, 1, .. in the order in which they were loaded, opened or
+ * accepted, and the payments that it forwards between them. Begins as {0}. Calls of a node answer LNL_HANDLE, and those
+ * of a channel 40 where it has none of that number.
+ *
+ * Saved before said. Records of all channels are saved in batches: all records of a batch in one transaction, and then
+ * lnl_node_saved. No message is handed out before all is saved that its call and the calls before it have changed. What
+ * stands above of a record's secrets and signatures holds of each record in a batch. */
+typedef struct lnl_node {
+    void *at;
+} lnl_node;
+
+/* The node of the newest records of all its channels, at once: each after its length u64 (`sized8`), as a batch had it.
+ * None of them (n = 0): a new node. settings = fee_base_msat u32, fee_proportional_millionths u32,
+ * cltv_expiry_delta u16, a secret mark 32, the same over all restarts. Onions are asked for again, to be answered
+ * before lnl_node_connect; events that aren't decided come again. 70 or 71 where the bytes are no such records, or two
+ * are of one channel. */
+int32_t lnl_node_load(lnl_node *out, const uint8_t *settings, size_t len, const uint8_t *records, size_t n);
+
+/* Frees what the handle holds and leaves {0}. {0} and a null pointer are fine. */
+void lnl_node_free(lnl_node *node);
+
+/* As lnl_open, lnl_accept and lnl_fund, of a further channel, whose number is left in *channel. */
+int32_t lnl_node_open(lnl_node *node, const uint8_t *spec, size_t len, const uint8_t *first_point, size_t n,
+                      size_t *channel);
+int32_t lnl_node_accept(lnl_node *node, const uint8_t *config, size_t len, const uint8_t *first_point, size_t n,
+                        size_t *channel);
+int32_t lnl_node_fund(lnl_node *node, size_t channel, const uint8_t *txid, size_t n, uint16_t output);
+
+/* As lnl_connect and lnl_disconnect. A connection may carry several channels: each is told. LNL_ASKS while an onion
+ * that was asked for after the load isn't known. */
+int32_t lnl_node_connect(lnl_node *node, size_t channel);
+int32_t lnl_node_disconnect(lnl_node *node, size_t channel);
+
+/* As lnl_question, lnl_message, lnl_look and lnl_view, of a channel. Kinds 5 and 6 are never asked: a node knows its
+ * channels. */
+int32_t lnl_node_question(lnl_node *node, size_t channel, const uint8_t *message, size_t len, uint8_t *out, size_t room,
+                          size_t *n);
+int32_t lnl_node_message(lnl_node *node, size_t channel, const uint8_t *message, size_t len, const uint8_t *answer,
+                         size_t n);
+int32_t lnl_node_look(lnl_node *node, size_t channel, uint8_t *out, size_t room, size_t *n);
+int32_t lnl_node_view(lnl_node *node, size_t channel, uint8_t which, uint8_t *out, size_t room, size_t *n);
+
+/* As lnl_command: Confirm, Add without an origin, Fee, Sign and Shutdown. 40 for all others, which are the node's. */
+int32_t lnl_node_command(lnl_node *node, size_t channel, const uint8_t *command, size_t len);
+
+/* Each channel signs that owes a signature: once after all messages that have come. */
+int32_t lnl_node_sign(lnl_node *node);
+
+/* The block height. 40 above 400,000,000. */
+int32_t lnl_node_height(lnl_node *node, uint32_t height);
+
+/* A payment is waited for, which the node takes as its last hop: preimage and payment secret have 32 bytes. A restart
+ * forgets it. */
+int32_t lnl_node_expect(lnl_node *node, const uint8_t *preimage, size_t len, const uint8_t *secret, size_t n,
+                        uint64_t amount_msat);
+
+/* Hands out the next item, once; by LNL_SHORT it comes again. Call it until *n = 0, after each other call. A kind u8:
+ *   1 Batch    number u64, list (channel u64, sized8 record): save all of them in one transaction and sync, then
+ *              lnl_node_saved. A record is what lnl_next shows after the kind 1
+ *   2 Message  channel u64, message u64, and what lnl_next shows of it: 2 Blank (lnl_node_fill), 3 Send
+ *              (lnl_node_sent; send it in this order, by the channel's connection)
+ *   3 Event    channel u64, and what lnl_next shows of it: 4 Event (lnl_node_verdict)
+ *   4 Onion    optional (payment_hash 32, onion 1366): open it, and answer lnl_node_onion; nothing of one that is gone
+ *   5 Wrap     channel u64, message u64, HTLC's id u64, optional (payment_hash 32, onion 1366), kind u8 (0: a failure
+ *              message of the node's own; 1: a failure that came back), its bytes: lnl_node_fill with the failure as it
+ *              goes back, by the onion's shared secret (BOLT 4, "Returning Errors")
+ * Items of one channel depend on each other in this order alone: its messages wait for the batch, one after the other.
+ * What other channels have goes on. */
+int32_t lnl_node_next(lnl_node *node, uint8_t *out, size_t room, size_t *n);
+
+/* The batch of this number is saved and synced. 40 where it isn't the one that was handed out last. */
+int32_t lnl_node_saved(lnl_node *node, uint64_t batch);
+
+/* Fills a message: it then comes again as Send. 40 where it isn't the last one of its channel that was handed out, as
+ * after a lost connection; LNL_ANSWER. */
+int32_t lnl_node_fill(lnl_node *node, size_t channel, uint64_t message, const uint8_t *filling, size_t len);
+
+/* A message that was handed out as Send has left. 40 as above. */
+int32_t lnl_node_sent(lnl_node *node, size_t channel, uint64_t message);
+
+/* What is in an onion, a kind u8: 0 payload sized2, and the next onion 1366, if there is one; 1 an unknown version, 2 a
+ * wrong HMAC, 3 a key, 4 a payload that can't be read. 40 where it wasn't asked for, or is gone; LNL_ANSWER. */
+int32_t lnl_node_onion(lnl_node *node, const uint8_t *payment_hash, size_t len, const uint8_t *onion, size_t n,
+                       const uint8_t *found, size_t m);
+
+/* What is done about an event, a kind u8: 0 it goes on (also each event but an HTLC that a peer has added); 1 it
+ * fails, failure_code u16 (0x1007, 0x400a, 0x100b to 0x100e, 0x400f, 0x0012, 0x0013, 0x0015 or 0x4016); 2 it is held.
+ * LNL_ASKS where it is to go on and its onion isn't known; 40 where the event isn't handed out, or was decided. */
+int32_t lnl_node_verdict(lnl_node *node, size_t channel, uint64_t event, const uint8_t *verdict, size_t len);
+
+/* The same of an HTLC that a channel holds by the number of its event. 40 where it holds none so. */
+int32_t lnl_node_resume(lnl_node *node, size_t channel, uint64_t event, const uint8_t *verdict, size_t len);
+
+/* Of each HTLC that is held: channel u64, event u64, id u64, amount_msat u64, payment_hash 32, cltv_expiry u32. */
+int32_t lnl_node_held(lnl_node *node, uint8_t *out, size_t room, size_t *n);
 
 /* BOLT 1, of no link ---------------------------------------------------------------------------------------------- */
 

@@ -90,6 +90,104 @@ static void one_link(void) {
     lnl_free(&link);
 }
 
+/* fees, a delta and a mark of zeros; a verdict to go on; what is in no onion */
+static const uint8_t settings[4 + 4 + 2 + 32];
+static const uint8_t go_on[] = {0};
+static const uint8_t onion[1366];
+static const uint8_t no_payload[] = {4};
+
+static void no_node(void) {
+    lnl_node empty = {0};
+    uint8_t out[64];
+    size_t n, channel;
+    lnl_node *nodes[] = {&empty, NULL};
+    for (int at = 0; at < 2; at++) {
+        lnl_node *node = nodes[at];
+        IS(LNL_HANDLE, lnl_node_open(node, config, sizeof config, point, 33, &channel));
+        IS(LNL_HANDLE, lnl_node_accept(node, config, sizeof config, point, 33, &channel));
+        IS(LNL_HANDLE, lnl_node_fund(node, 0, config, 32, 0));
+        IS(LNL_HANDLE, lnl_node_connect(node, 0));
+        IS(LNL_HANDLE, lnl_node_disconnect(node, 0));
+        IS(LNL_HANDLE, lnl_node_question(node, 0, ping, sizeof ping, out, sizeof out, &n));
+        IS(LNL_HANDLE, lnl_node_message(node, 0, ping, sizeof ping, NULL, 0));
+        IS(LNL_HANDLE, lnl_node_look(node, 0, out, sizeof out, &n));
+        IS(LNL_HANDLE, lnl_node_view(node, 0, 0, out, sizeof out, &n));
+        IS(LNL_HANDLE, lnl_node_command(node, 0, sign, 1));
+        IS(LNL_HANDLE, lnl_node_sign(node));
+        IS(LNL_HANDLE, lnl_node_height(node, 1));
+        IS(LNL_HANDLE, lnl_node_expect(node, config, 32, config, 32, 1));
+        IS(LNL_HANDLE, lnl_node_next(node, out, sizeof out, &n));
+        IS(LNL_HANDLE, lnl_node_saved(node, 1));
+        IS(LNL_HANDLE, lnl_node_fill(node, 0, 0, point, 33));
+        IS(LNL_HANDLE, lnl_node_sent(node, 0, 0));
+        IS(LNL_HANDLE, lnl_node_onion(node, config, 32, onion, sizeof onion, no_payload, 1));
+        IS(LNL_HANDLE, lnl_node_verdict(node, 0, 0, go_on, 1));
+        IS(LNL_HANDLE, lnl_node_resume(node, 0, 0, go_on, 1));
+        IS(LNL_HANDLE, lnl_node_held(node, out, sizeof out, &n));
+        lnl_node_free(node);
+    }
+    IS(LNL_HANDLE, lnl_node_load(NULL, settings, sizeof settings, NULL, 0));
+    IS(LNL_HANDLE, lnl_node_load(&empty, NULL, sizeof settings, NULL, 0));
+    IS(LNL_HANDLE, lnl_node_load(&empty, settings, sizeof settings, NULL, 1));
+    IS(70, lnl_node_load(&empty, settings, sizeof settings - 1, NULL, 0));
+    IS(70, lnl_node_load(&empty, settings, sizeof settings, config, 8));
+    IS(0, empty.at != NULL);
+}
+
+/* Of a node without a channel, and of one whose channel isn't opened. */
+static void one_node(void) {
+    lnl_node node = {0};
+    uint8_t out[256];
+    size_t n, channel = 7;
+    IS(0, lnl_node_load(&node, settings, sizeof settings, NULL, 0));
+    IS(LNL_HANDLE, lnl_node_load(&node, settings, sizeof settings, NULL, 0));
+    IS(0, lnl_node_next(&node, out, sizeof out, &n));
+    IS(0, n != 0);
+    IS(40, lnl_node_connect(&node, 0));
+    IS(40, lnl_node_message(&node, 0, ping, sizeof ping, NULL, 0));
+    IS(40, lnl_node_look(&node, 0, out, sizeof out, &n));
+    IS(81, lnl_node_accept(&node, config, sizeof config, point, 32, &channel));
+    IS(70, lnl_node_accept(&node, config, sizeof config - 1, point, 33, &channel));
+    IS(LNL_HANDLE, lnl_node_accept(&node, config, sizeof config, point, 33, NULL));
+    IS(0, channel != 7);
+    IS(0, lnl_node_accept(&node, config, sizeof config, point, 33, &channel));
+    IS(0, channel != 0);
+    IS(0, lnl_node_accept(&node, config, sizeof config, point, 33, &channel));
+    IS(0, channel != 1);
+    IS(40, lnl_node_fund(&node, 0, config, 32, 0));
+    IS(81, lnl_node_fund(&node, 0, config, 31, 0));
+    IS(0, lnl_node_connect(&node, 0));
+    IS(40, lnl_node_connect(&node, 0));
+    IS(40, lnl_node_connect(&node, 2));
+    IS(0, lnl_node_message(&node, 0, ping, sizeof ping, NULL, 0)); /* it is of no channel */
+    IS(81, lnl_node_message(&node, 0, ping, sizeof ping, go_on, 1));
+    IS(LNL_HANDLE, lnl_node_message(&node, 0, NULL, 6, NULL, 0));
+    IS(40, lnl_node_command(&node, 0, sign, 1));
+    IS(0, lnl_node_sign(&node));
+    IS(40, lnl_node_height(&node, 400000001));
+    IS(0, lnl_node_height(&node, 400000000));
+    IS(81, lnl_node_expect(&node, config, 31, config, 32, 1));
+    IS(0, lnl_node_expect(&node, config, 32, config, 32, 1));
+    IS(40, lnl_node_saved(&node, 1));
+    IS(40, lnl_node_fill(&node, 0, 0, point, 33));
+    IS(40, lnl_node_sent(&node, 0, 0));
+    IS(81, lnl_node_onion(&node, config, 32, onion, 1365, no_payload, 1));
+    IS(40, lnl_node_onion(&node, config, 32, onion, sizeof onion, no_payload, 1));
+    IS(40, lnl_node_verdict(&node, 0, 0, go_on, 1));
+    IS(81, lnl_node_verdict(&node, 0, 0, go_on, 0));
+    IS(81, lnl_node_verdict(&node, 0, 0, no_payload, 1));
+    IS(40, lnl_node_resume(&node, 0, 0, go_on, 1));
+    IS(LNL_SHORT, lnl_node_look(&node, 0, out, 1, &n));
+    IS(0, lnl_node_look(&node, 0, out, n, &n));
+    IS(0, lnl_node_held(&node, out, sizeof out, &n));
+    IS(0, n != 0);
+    IS(0, lnl_node_disconnect(&node, 0));
+    IS(0, lnl_node_disconnect(&node, 2));
+    lnl_node_free(&node);
+    IS(0, node.at != NULL);
+    lnl_node_free(&node);
+}
+
 static void bolt1(void) {
     static const uint8_t pong[] = {0, 19, 0, 2, 0, 0};
     static const uint8_t init[] = {0, 16, 0, 0, 0, 1, 2};
@@ -123,6 +221,8 @@ static void bolt1(void) {
 int main(void) {
     empty_and_null();
     one_link();
+    no_node();
+    one_node();
     bolt1();
     return failed;
 }

@@ -133,6 +133,38 @@ static void of_no_link(int kind) {
     }
 }
 
+/* Calls of a node that has the record's channel, and one that isn't opened. */
+static void of_a_node(int kind) {
+    static const uint8_t settings[4 + 4 + 2 + 32];
+    static uint8_t records[8 + ROOM];
+    for (int at = 0; at < 8; at++) records[at] = (uint8_t)((uint64_t)record_length >> (56 - 8 * at));
+    memcpy(records + 8, record, record_length);
+    for (long granted = 0;; granted++) {
+        lnl_node node = {0};
+        size_t n = 0, channel = 0;
+        int32_t answer = 0;
+        if (kind == 0) WITH(granted, lnl_node_load(&node, settings, sizeof settings, records, 8 + record_length));
+        expect(answer == 0 || !node.at, "loads", answer);
+        if (kind > 0) {
+            expect(lnl_node_load(&node, settings, sizeof settings, records, 8 + record_length) == 0, "load", 0);
+            if (kind == 1) WITH(granted, lnl_node_accept(&node, config, sizeof config, point, 33, &channel));
+            if (answer == MEMORY) expect(lnl_node_look(&node, 1, out, ROOM, &n) == 40, "adds none", 0);
+            if (kind != 1) expect(lnl_node_accept(&node, config, sizeof config, point, 33, &channel) == 0, "accept", 0);
+        }
+        if (kind == 2) WITH(granted, lnl_node_connect(&node, 0));
+        if (kind > 2) expect(lnl_node_connect(&node, 0) == 0 && lnl_node_connect(&node, 1) == 0, "connect", 0);
+        if (kind == 3) WITH(granted, lnl_node_next(&node, out, ROOM, &n));
+        if (kind == 4) WITH(granted, lnl_node_message(&node, 1, opening, opening_length, NULL, 0));
+        if (kind == 5) WITH(granted, lnl_node_held(&node, out, ROOM, &n));
+        if (kind == 6) WITH(granted, lnl_node_expect(&node, config, 32, config, 32, 1));
+        expect(answer == 0 || answer == MEMORY, "of a node", answer);
+        if (kind == 3 && answer == MEMORY)
+            expect(lnl_node_next(&node, out, ROOM, &n) == 0 && n > 0, "it comes again", granted);
+        lnl_node_free(&node);
+        if (answer != MEMORY) return;
+    }
+}
+
 /* An open_channel, as a funder sends it. */
 static void make_opening(void) {
     lnl_link link = {0};
@@ -156,6 +188,7 @@ int main(void) {
         tells(kind);
         of_no_link(kind);
     }
+    for (int kind = 0; kind < 7; kind++) of_a_node(kind);
     printf("C: %lu times memory was refused\n", tried);
     return failed;
 }

@@ -1,6 +1,7 @@
-"""lnlink: one end of a Lightning channel, proved, without sockets, disk and keys, which a wallet brings.
+"""lnlink: one end of a Lightning channel, or a routing node of many, without sockets, disk and keys.
 
-`Channel` is what a wallet uses, with a `Signer` and a `Store`; `Link` is the library call by call.
+`Channel` is what a wallet uses, with a `Signer` and a `Store`; `RoutingNode` forwards payments between many channels,
+with `Onions` and a `NodeStore` beside. `Link` and `Node` are the library call by call.
 """
 
 from .channel import Channel, Signer
@@ -58,6 +59,26 @@ from .messages import (
     signatures_in,
     warning,
 )
+from .node import Node, Settings
+from .node_items import (
+    Batch,
+    FailPayment,
+    GoOn,
+    HeldHtlc,
+    Hold,
+    NodeEvent,
+    NodeItem,
+    NodeMessage,
+    OnionFound,
+    OnionItem,
+    Opened,
+    Verdict,
+    WrapItem,
+    WrongHmac,
+    WrongKey,
+    WrongPayload,
+    WrongVersion,
+)
 from .questions import (
     CloseQuestion,
     FirstQuestion,
@@ -68,12 +89,14 @@ from .questions import (
     SignaturesQuestion,
 )
 from .refusals import Refused
+from .routing import NodeStore, Onions, RoutingNode
 from .store import SqliteStore, Store
 from .views import Closing, Commitment, Connection, Htlc, Status, Summary, View
 
 __all__ = [
     "Add",
     "Added",
+    "Batch",
     "Blank",
     "BlankItem",
     "Channel",
@@ -92,6 +115,7 @@ __all__ = [
     "EventItem",
     "Fail",
     "FailMark",
+    "FailPayment",
     "Failed",
     "FailedMalformed",
     "Fee",
@@ -101,8 +125,11 @@ __all__ = [
     "Fulfil",
     "FulfilMark",
     "Fulfilled",
+    "GoOn",
+    "HeldHtlc",
     "HeldMark",
     "HeldSignatures",
+    "Hold",
     "How",
     "Htlc",
     "Item",
@@ -112,7 +139,16 @@ __all__ = [
     "Mark",
     "NewQuestion",
     "NoMark",
+    "Node",
+    "NodeEvent",
+    "NodeItem",
+    "NodeMessage",
+    "NodeStore",
+    "OnionFound",
+    "OnionItem",
+    "Onions",
     "OpenSpec",
+    "Opened",
     "OwnSecretQuestion",
     "PointBlank",
     "Question",
@@ -121,8 +157,10 @@ __all__ = [
     "Resume",
     "RevocationBlank",
     "Role",
+    "RoutingNode",
     "SecretQuestion",
     "Send",
+    "Settings",
     "Settled",
     "Shutdown",
     "Sign",
@@ -133,7 +171,13 @@ __all__ = [
     "Status",
     "Store",
     "Summary",
+    "Verdict",
     "View",
+    "WrapItem",
+    "WrongHmac",
+    "WrongKey",
+    "WrongPayload",
+    "WrongVersion",
     "channel_id",
     "channel_of",
     "check_chains",

@@ -209,7 +209,7 @@ class Channel:
             self._store.save(item)
             self.link.done()
         elif isinstance(item, BlankItem):
-            self.link.done(self._fill(item.blank))
+            self.link.done(filled_by(self._signer, item.blank))
         elif isinstance(item, Send):
             self._outbox.append(item.message)
             self.link.done()
@@ -220,35 +220,40 @@ class Channel:
         else:
             self.link.done()
 
-    def _fill(self, blank: Blank) -> bytes:
-        if isinstance(blank, SignaturesBlank):
-            return self._signer.sign(blank)
-        if isinstance(blank, RevocationBlank):
-            return self._signer.secret(blank.secret_number) + self._signer.point(blank.point_number)
-        if isinstance(blank, PointBlank):
-            return self._signer.point(blank.number)
-        assert isinstance(blank, CloseBlank)
-        return self._signer.sign_close(blank.closing)
-
     def _answer(self, message: bytes) -> bytes:
         question = self.link.question(message)
         return b"" if question is None else self._judge(question, message)
 
     def _judge(self, question: Question, message: bytes) -> bytes:
-        if isinstance(question, SignaturesQuestion):
-            return _byte(self._signer.verify(question, message))
-        if isinstance(question, SecretQuestion):
-            return _byte(self._signer.fits(question.number, question.point, secret_in(message)))
-        if isinstance(question, CloseQuestion):
-            return _byte(self._signer.verify_close(question.closing, message))
-        if isinstance(question, OwnSecretQuestion):
-            return self._signer.secret(question.number)
         if isinstance(question, NewQuestion):
             return _byte(self._store.load(question.channel) is None)
-        assert isinstance(question, FirstQuestion)
-        if self._store.load(question.channel) is not None:
+        if isinstance(question, FirstQuestion) and self._store.load(question.channel) is not None:
             return b"\2"
-        return _byte(self._signer.verify(question, message))
+        return answer_to(self._signer, question, message)
+
+
+def filled_by(signer: Signer, blank: Blank) -> bytes:
+    """What a signer fills in a message."""
+    if isinstance(blank, SignaturesBlank):
+        return signer.sign(blank)
+    if isinstance(blank, RevocationBlank):
+        return signer.secret(blank.secret_number) + signer.point(blank.point_number)
+    if isinstance(blank, PointBlank):
+        return signer.point(blank.number)
+    assert isinstance(blank, CloseBlank)
+    return signer.sign_close(blank.closing)
+
+
+def answer_to(signer: Signer, question: Question, message: bytes) -> bytes:
+    """What a signer answers to a question about a message."""
+    if isinstance(question, (SignaturesQuestion, FirstQuestion)):
+        return _byte(signer.verify(question, message))
+    if isinstance(question, SecretQuestion):
+        return _byte(signer.fits(question.number, question.point, secret_in(message)))
+    if isinstance(question, CloseQuestion):
+        return _byte(signer.verify_close(question.closing, message))
+    assert isinstance(question, OwnSecretQuestion)
+    return signer.secret(question.number)
 
 
 def _byte(yes: bool) -> bytes:

@@ -3,8 +3,8 @@
 from __future__ import annotations
 
 import os
-from ctypes import CDLL, POINTER, Structure, byref, c_char_p, c_int32, c_size_t, c_uint8, c_uint16, c_void_p
-from ctypes import create_string_buffer
+from ctypes import CDLL, POINTER, Structure, byref, c_char_p, c_int32, c_size_t, c_uint8, c_uint16, c_uint32, c_uint64
+from ctypes import c_void_p, create_string_buffer
 from pathlib import Path
 from typing import Any
 
@@ -12,7 +12,7 @@ from .refusals import Refused, check
 
 
 class Handle(Structure):
-    """`lnl_link` of include/lnlink.h."""
+    """`lnl_link` or `lnl_node` of include/lnlink.h."""
 
     _fields_ = [("at", c_void_p)]
 
@@ -41,6 +41,28 @@ _CALLS: dict[str, list[Any]] = {
     "lnl_pong": [*_IN, *_OUT],
     "lnl_channel": [*_IN, *_OUT],
     "lnl_print": [*_IN, *_OUT],
+    "lnl_node_load": [_LINK, *_IN, *_IN],
+    "lnl_node_open": [_LINK, *_IN, *_IN, POINTER(c_size_t)],
+    "lnl_node_accept": [_LINK, *_IN, *_IN, POINTER(c_size_t)],
+    "lnl_node_fund": [_LINK, c_size_t, *_IN, c_uint16],
+    "lnl_node_connect": [_LINK, c_size_t],
+    "lnl_node_disconnect": [_LINK, c_size_t],
+    "lnl_node_question": [_LINK, c_size_t, *_IN, *_OUT],
+    "lnl_node_message": [_LINK, c_size_t, *_IN, *_IN],
+    "lnl_node_command": [_LINK, c_size_t, *_IN],
+    "lnl_node_sign": [_LINK],
+    "lnl_node_height": [_LINK, c_uint32],
+    "lnl_node_expect": [_LINK, *_IN, *_IN, c_uint64],
+    "lnl_node_next": [_LINK, *_OUT],
+    "lnl_node_saved": [_LINK, c_uint64],
+    "lnl_node_fill": [_LINK, c_size_t, c_uint64, *_IN],
+    "lnl_node_sent": [_LINK, c_size_t, c_uint64],
+    "lnl_node_onion": [_LINK, *_IN, *_IN, *_IN],
+    "lnl_node_verdict": [_LINK, c_size_t, c_uint64, *_IN],
+    "lnl_node_resume": [_LINK, c_size_t, c_uint64, *_IN],
+    "lnl_node_held": [_LINK, *_OUT],
+    "lnl_node_look": [_LINK, c_size_t, *_OUT],
+    "lnl_node_view": [_LINK, c_size_t, c_uint8, *_OUT],
 }
 
 # Holds all but records and views of many HTLCs.
@@ -55,8 +77,9 @@ def _load() -> CDLL:
         call = getattr(library, name)
         call.argtypes = arguments
         call.restype = c_int32
-    library.lnl_free.argtypes = [_LINK]
-    library.lnl_free.restype = None
+    for free in (library.lnl_free, library.lnl_node_free):
+        free.argtypes = [_LINK]
+        free.restype = None
     return library
 
 

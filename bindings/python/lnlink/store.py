@@ -5,7 +5,7 @@ from __future__ import annotations
 import sqlite3
 from os import PathLike
 from threading import Lock
-from typing import Protocol
+from typing import Protocol, Sequence
 
 from .items import Record
 
@@ -41,9 +41,15 @@ class SqliteStore:
 
     def save(self, record: Record) -> None:
         """Saves a record and its secrets in one transaction, synced. sqlite3.Error where it can't."""
-        secrets = [(record.channel, number, secret) for number, secret in record.secrets]
+        self.save_batch([record])
+
+    def save_batch(self, records: Sequence[Record]) -> None:
+        """Saves records of several channels and their secrets in one transaction, synced. sqlite3.Error where it
+        can't."""
+        saved = [(record.channel, record.saved()) for record in records]
+        secrets = [(record.channel, number, secret) for record in records for number, secret in record.secrets]
         with self._lock, self._base:
-            self._base.execute("REPLACE INTO records VALUES (?, ?)", (record.channel, record.saved()))
+            self._base.executemany("REPLACE INTO records VALUES (?, ?)", saved)
             self._base.executemany("REPLACE INTO secrets VALUES (?, ?, ?)", secrets)
 
     def load(self, channel: bytes) -> bytes | None:
@@ -51,6 +57,11 @@ class SqliteStore:
         with self._lock:
             row = self._base.execute("SELECT saved FROM records WHERE channel = ?", (channel,)).fetchone()
         return None if row is None else row[0]
+
+    def load_all(self) -> list[tuple[bytes, bytes]]:
+        """The id of each channel, and what was saved last of it."""
+        with self._lock:
+            return self._base.execute("SELECT channel, saved FROM records ORDER BY channel").fetchall()
 
     def channels(self) -> list[bytes]:
         """The channels that it has records of."""

@@ -39,6 +39,7 @@ from lnlink import (
     print_message,
     warning,
 )
+from lnlink.channel import filled_by
 from lnlink.library import library, obey
 from lnlink.refusals import NAMES
 
@@ -136,7 +137,7 @@ class RefusalTest(unittest.TestCase):
         link.done()
         blank = link.next()
         assert isinstance(blank, BlankItem)
-        filling = wire.a.link._fill(blank.blank)
+        filling = filled_by(wire.a.signer, blank.blank)
         self.refused(41, link.command, Sign())
         self.refused(40, link.done, filling)
         self.assertEqual(link.next(), blank)

@@ -1,7 +1,8 @@
 //! One end of a Lightning channel: BOLT 2 from `open_channel` to the mutual close, over lost connections and restarts.
 //! What decides is the proved library liblnlink; sockets, keys and disk are its host's.
 //!
-//! [`Channel`] is what a wallet uses, with a [`Signer`] and a [`Store`]; [`Link`] is the library call by call.
+//! [`Channel`] is what a wallet uses, with a [`Signer`] and a [`Store`]; [`Link`] is the library call by call. [`Node`]
+//! is a routing node of many channels, call by call.
 //!
 //! ```
 //! use lnlink::{message, Refused};
@@ -26,6 +27,7 @@ mod ffi;
 mod item;
 mod link;
 pub mod message;
+mod node;
 mod question;
 mod refused;
 mod store;
@@ -37,6 +39,7 @@ pub use command::{Command, Mark};
 pub use config::{channel_id, short_channel_id, Config, Hash, Onion, OpenSpec, Point, Signature};
 pub use item::{Blank, Event, HeldSignatures, How, Item, Record};
 pub use link::Link;
+pub use node::{HeldHtlc, Node, NodeItem, OnionFound, Settings, Verdict};
 pub use question::Question;
 pub use refused::Refused;
 pub use store::{BoxError, FileStore, Store};

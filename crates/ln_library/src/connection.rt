@@ -17,7 +17,7 @@ use std::alloc::Global;
 
 /// The message of these bytes; none of an odd type that isn't known, which is ignored. Errors: the first fault of the
 /// bytes, 1 to 9; 60 where there is no memory.
-pub(crate) fn read(alloc: Global, bytes: &[u8]) -> Result<Option<Message>, Refusal>
+pub fn read(alloc: Global, bytes: &[u8]) -> Result<Option<Message>, Refusal>
     ensures { Reads bytes.now result }
 {
     match decode(alloc, bytes) {
@@ -28,7 +28,7 @@ pub(crate) fn read(alloc: Global, bytes: &[u8]) -> Result<Option<Message>, Refus
 }
 
 /// The bytes of a message. Errors: 7 where it has more than 65,535, 60 where there is no memory.
-pub(crate) fn written(alloc: Global, message: &Message) -> Result<Vec<u8>, Refusal>
+pub fn written(alloc: Global, message: &Message) -> Result<Vec<u8>, Refusal>
     ensures { Writes (λ v. v.items) message.now result }
 {
     if !fits(message) {

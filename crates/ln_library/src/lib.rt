@@ -5,5 +5,8 @@ mod connection;
 mod link;
 mod summary;
 
-pub use connection::{channel, check_init, init, pong, print, shares_chain};
-pub use link::{accept, command, done, fund, load, look, message, next, open, question, view};
+pub use connection::{channel, check_init, init, pong, print, read, shares_chain, written};
+pub use link::{
+    accept, command, done, exactly, fund, load, look, message, next, open, question, view, worth,
+};
+pub use summary::summary_of;

@@ -35,8 +35,8 @@ use ln_wire::{
 };
 use std::alloc::Global;
 
-// So many bytes. Error: 81 where there are more or fewer.
-fn exactly<const N: usize>(bytes: &[u8]) -> Result<[u8; N], HostRefusal>
+/// So many bytes. Error: 81 where there are more or fewer.
+pub fn exactly<const N: usize>(bytes: &[u8]) -> Result<[u8; N], HostRefusal>
     ensures answer { result ≡ exactly N bytes.now }
     ensures bytes { IfOk result (λ b. (b ≡ bytes.now) × (length bytes.now ≡ N)) }
     ensures refused { IfErr result (λ e. (e ≡ host.Answer) × (length bytes.now ≢ N)) }
@@ -235,15 +235,23 @@ fn worth_of(alloc: Global, channel: Option<&Channel>, pair: Pair) -> Result<View
     }
 }
 
-/// What a commitment is worth: 0 the own one, 1 the peer's, 2 the one that would be signed, 3 the one that the peer's
-/// next signature covers. Errors: 40 for another number, or where no funding is named; 60.
-pub fn view(alloc: Global, link: &HostLink, which: u8) -> Result<Vec<u8>, Refusal>
+/// What a commitment of a channel is worth: 0 the own one, 1 the peer's, 2 the one that would be signed, 3 the one that
+/// the peer's next signature covers. Errors: 40 for another number, or where there is no channel; 60.
+pub fn worth(alloc: Global, channel: Option<&Channel>, which: u8) -> Result<Vec<u8>, Refusal>
     ensures looks { Gives (λ v. v.items) result
-        (view_bytes (viewed (pair_of which) (agreed_end link.now.link.stage))) }
+        (view_bytes (viewed (pair_of which) (option_copied channel.entry))) }
 {
     let Some(pair) = pair_of(which) else {
         return Err(Refusal::NotReady);
     };
-    let view = worth_of(alloc, link.machine().agreed(), pair)?;
+    let view = worth_of(alloc, channel, pair)?;
     encode_view(alloc, &view)
+}
+
+/// What a commitment is worth, as `worth` says it of the link's channel, where its funding is named.
+pub fn view(alloc: Global, link: &HostLink, which: u8) -> Result<Vec<u8>, Refusal>
+    ensures looks { Gives (λ v. v.items) result
+        (view_bytes (viewed (pair_of which) (agreed_end link.now.link.stage))) }
+{
+    worth(alloc, link.machine().agreed(), which)
 }

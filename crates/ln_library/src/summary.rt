@@ -92,10 +92,7 @@ fn removed_of(alloc: Global, channel: Option<&Channel>) -> Result<Vec<u64>, Refu
 }
 
 /// Where a link stands. 60 where there is no memory.
-pub(crate) fn summary_of(
-    alloc: Global,
-    machine: &ChannelMachine<HostKeys>,
-) -> Result<LinkSummary, Refusal>
+pub fn summary_of(alloc: Global, machine: &ChannelMachine<HostKeys>) -> Result<LinkSummary, Refusal>
     ensures summary { (l : State HostKeys) → StandsFor machine.now l → IfOk result (λ s. s ≡ link_summary l) }
     ensures fails_for_memory_alone { IfErr result (λ r. r ≡ refusal.Memory) }
 {

@@ -1,4 +1,6 @@
 pub mod Answers
 pub mod Holding
+pub mod NodeHolding
+pub mod NodeObject
 pub mod Object
 pub mod Owned

@@ -1,4 +1,5 @@
-//! The library for C: each call is one of ln_library's, on a link that C keeps by a handle.
+//! The library for C: each call is one of ln_library's, on a link that C keeps by a handle, or one of ln_host_node's,
+//! on a node (node.rt).
 //!
 //! A call answers 0, or the number of what went wrong: a refusal's (the peer's rule of 44 stands in the second byte),
 //! 80
@@ -9,8 +10,11 @@ ghost use Rattle.std.specs.Prelude.{◌≡◌, ◌≢◌, ◌⊎◌, length, pos
 ghost use Rattle.lnlink_c.specs.Answers.{answer_number, done_number, host_number, host_done_number, Copies};
 
 mod held;
+mod held_node;
+mod node;
 
 pub use held::Held;
+pub use held_node::HeldNode;
 use ln_host::{HostLink, HostRefusal};
 use ln_refusals::Refusal;
 use std::alloc::Global;

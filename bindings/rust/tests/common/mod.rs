@@ -2,6 +2,7 @@
 #![allow(dead_code)]
 
 pub mod ends;
+pub mod nodes;
 pub mod secp256k1;
 pub mod sha256;
 pub mod signer;
