@@ -1,7 +1,5 @@
 //! Why the program ends without success.
 
-ghost use Rattle.std.specs.Prelude.{◌≡◌};
-
 use ln_refusals::Refusal;
 use ln_script::ProgramError;
 use std::alloc::{AllocError, AllocFailed};
@@ -18,7 +16,8 @@ pub enum Failure {
 }
 
 impl Failure {
-    ghost use Rattle.std.specs.Prelude.{◌≡◌};
+    ghost use Rattle.std.specs.Prelude.{◌≡◌, String};
+    ghost use Rattle.ln_script.specs.declared.program.program_error.ProgramError.{ProgramError};
     ghost use Rattle.ln_script.specs.ProgramError.{status_of};
 
     /// The program's exit status.

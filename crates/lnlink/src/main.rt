@@ -1,7 +1,7 @@
 //! `lnlink`: channel links of a payment channel node, on the command line.
 #![tactic(auto)]
 
-ghost use Rattle.std.specs.Prelude.{◌≡◌, ◌⊎◌, IfErr};
+ghost use Rattle.std.specs.Prelude.{◌≡◌, ◌⊎◌, IfErr, String};
 ghost use Rattle.ln_refusals.specs.declared.refusal.Refusal.TheVariants.{Memory};
 
 mod failure;
