@@ -16,14 +16,12 @@ pub enum Failure {
 }
 
 impl Failure {
-    ghost use Rattle.std.specs.Prelude.{◌≡◌, String};
-    ghost use Rattle.ln_script.specs.declared.program.program_error.ProgramError.{ProgramError};
-    ghost use Rattle.ln_script.specs.ProgramError.{status_of};
+    ghost use Rattle.std.specs.Prelude.{◌≡◌};
+    ghost use Rattle.lnlink.specs.Failure.{exit_status};
 
     /// The program's exit status.
     pub fn status(&self) -> u8
-        ensures of_words { (text : String) → self.now ≡ Failure.Usage text → result ≡ 2 }
-        ensures of_errors { (e : ProgramError) → self.now ≡ Failure.Stopped e → result ≡ status_of e }
+        ensures { result ≡ exit_status self.now }
     {
         match self {
             Failure::Usage(_) => 2,

@@ -1,8 +1,9 @@
 //! `lnlink`: channel links of a payment channel node, on the command line.
 #![tactic(auto)]
 
-ghost use Rattle.std.specs.Prelude.{◌≡◌, ◌⊎◌, IfErr, String};
+ghost use Rattle.std.specs.Prelude.{◌≡◌, ◌⊎◌, IfErr};
 ghost use Rattle.ln_refusals.specs.declared.refusal.Refusal.TheVariants.{Memory};
+ghost use Rattle.lnlink.specs.Failure.{IsUsage};
 
 mod failure;
 
@@ -62,8 +63,7 @@ fn command<R: Input + Print + AllocGlobal>(rt: &R, choice: Choice) -> Result<(),
 /// What the words after the program's name ask for. Usage where they are no command or aren't text, 60 where there is
 /// no memory to read them.
 fn asked<R: Env + AllocGlobal>(rt: &R) -> Result<Asked, Failure>
-    ensures { IfErr result (λ e. (e ≡ Failure.Stopped (ProgramError.Refused Memory))
-        ⊎ ((text : String) × (e ≡ Failure.Usage text))) }
+    ensures { IfErr result (λ e. (e ≡ Failure.Stopped (ProgramError.Refused Memory)) ⊎ IsUsage e) }
 {
     match choose(rt.alloc(), words(rt)?.as_slice()) {
         Ok(asked) => Ok(asked),
@@ -74,8 +74,7 @@ fn asked<R: Env + AllocGlobal>(rt: &R) -> Result<Asked, Failure>
 
 /// The words after the program's name. Words that aren't text are usage.
 fn words<R: Env + AllocGlobal>(rt: &R) -> Result<Vec<String>, Failure>
-    ensures { IfErr result (λ e. (e ≡ Failure.Stopped (ProgramError.Refused Memory))
-        ⊎ ((text : String) × (e ≡ Failure.Usage text))) }
+    ensures { IfErr result (λ e. (e ≡ Failure.Stopped (ProgramError.Refused Memory)) ⊎ IsUsage e) }
 {
     let all = match env::args(rt) {
         Ok(all) => all,
