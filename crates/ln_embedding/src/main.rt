@@ -1,14 +1,17 @@
-//! Nodes in a program of yours: two open a channel over loopback, and one pays the other.
+//! Nodes in a program of yours: two open a channel over loopback, and one pays the other; then both start again, with
+//! the channel that their files have, and one pays once more.
 #![tactic(auto)]
 
 use ln_bytes::{Bytes, ShortId};
-use ln_channel::{Command, Config, FitConfig, FitSpec, OpenSpec, Points};
-use ln_forward::Policy;
+use ln_channel::{Command, Config, ConnectionState, FitConfig, FitSpec, OpenSpec, Points};
+use ln_forward::{Payload, Payment, Policy, write_payload};
 use ln_hooks::{Call, ChannelEvent, Hook, HookTable, How, Verdict};
 use ln_keys::{ToyKeys, ToyOnion, sha256_32};
 use ln_log::Limits;
 use ln_msgs::Records;
-use ln_node::{Answer, ChannelState, ChannelSummary, Counters, Decided, Node, Signing, Table};
+use ln_node::{
+    Answer, ChannelState, ChannelSummary, Counters, Decided, Node, Signing, Stored, Table,
+};
 use ln_refusals::Refusal;
 use ln_sqlite::FileRecords;
 use ln_store::RecordStore;
@@ -124,14 +127,19 @@ fn fit_spec(alloc: Global) -> Result<FitSpec, Refusal> {
     }
 }
 
-/// The payment. Its onion tells the payee the amount, the expiry 400, and the secret (BOLT 4, "`payload` Format").
+/// The payment. Its onion tells the payee what its invoice asks for (BOLT 4, "`payload` Format").
 fn payment(alloc: Global) -> Result<Command, Refusal> {
-    let mut payload = [0; 46];
-    payload[..11].copy_from_slice(&[2, 3, 1, 17, 112, 4, 2, 1, 144, 8, 35]);
-    payload[11..43].copy_from_slice(&SECRET);
-    payload[43..].copy_from_slice(&[1, 17, 112]);
+    let asked = Payload {
+        amount: Some(AMOUNT),
+        expiry: Some(400),
+        next: None,
+        payment: Some(Payment {
+            secret: SECRET,
+            total: AMOUNT,
+        }),
+    };
     let mut payloads = Vec::new(alloc);
-    payloads.push(Bytes::from_slice(alloc, &payload)?)?;
+    payloads.push(Bytes::new(write_payload(alloc, &asked)?))?;
     let hash = sha256_32(&PREIMAGE);
     let Some(onion) = ToyOnion::make(payloads.as_slice(), &hash) else {
         return Err(Refusal::TooLong);
@@ -176,6 +184,7 @@ where
         + Send
         + 'static,
 {
+    /// Two nodes without channels.
     fn new(rt: R, host: &'a HostRuntime) -> Result<Nodes<'a, S, H, T, R>, Refusal> {
         Ok(Nodes {
             rt,
@@ -185,29 +194,68 @@ where
         })
     }
 
-    /// The payee listens at any port, and the payer connects: channel 0 of both, which sign by themselves.
+    /// Two nodes with the channel that their stores have a record of. The payee listens at any port.
+    fn load(
+        rt: R,
+        host: &'a HostRuntime,
+        stores: (S, S),
+        tables: (T, T),
+    ) -> Result<Nodes<'a, S, H, T, R>, Refusal> {
+        let alloc = host.alloc();
+        let (of_payer, of_payee) = stores;
+        let (payers, payees) = tables;
+        let payer = restored(rt, alloc, PAYER, of_payer, payers, None)?;
+        match restored(rt, alloc, PAYEE, of_payee, payees, Some(any_port())) {
+            Ok(payee) => Ok(Nodes {
+                rt,
+                host,
+                payer,
+                payee,
+            }),
+            Err(refusal) => {
+                payer.stop(rt);
+                Err(refusal)
+            }
+        }
+    }
+
+    /// The payee listens at any port, and the payer connects: channel 0 of both.
     fn open(&mut self, stores: (S, S), tables: (T, T)) -> Result<(), Refusal> {
-        self.payer.set_signing(Signing::WhenIdle);
-        self.payee.set_signing(Signing::WhenIdle);
-        self.payer.trace(STEPS);
-        self.payee.trace(STEPS);
         let (rt, alloc) = (self.rt, self.host.alloc());
         let (of_payer, of_payee) = stores;
         let (payers, payees) = tables;
-        let any_port = SocketAddr::from(([127, 0, 0, 1], 0));
         let config = fit_config(alloc)?;
         let address = self
             .payee
-            .listen(rt, alloc, PAYEE, config, of_payee, payees, any_port)?;
+            .listen(rt, alloc, PAYEE, config, of_payee, payees, any_port())?;
         let spec = fit_spec(alloc)?;
         self.payer
             .connect(rt, alloc, PAYER, spec, of_payer, payers, address)
     }
 
-    /// Whether the payer's channel is ready.
+    /// The payer connects to the payee again.
+    fn reconnect(&self) -> Result<(), Refusal> {
+        match self.payee.address(0) {
+            Some(address) => self.payer.reconnect(&self.rt, 0, address),
+            None => Err(Refusal::NotReady),
+        }
+    }
+
+    /// Both sign by themselves, and keep their steps.
+    fn set(&mut self) {
+        self.payer.set_signing(Signing::WhenIdle);
+        self.payee.set_signing(Signing::WhenIdle);
+        self.payer.trace(STEPS);
+        self.payee.trace(STEPS);
+    }
+
+    /// Whether the payer's channel is ready, and the payee is there.
     fn is_ready(&self) -> bool {
         match self.payer.summary(&self.rt, 0) {
-            Ok(summary) => summary.state == ChannelState::Ready,
+            Ok(summary) => {
+                summary.state == ChannelState::Ready
+                    && summary.connection == ConnectionState::Connected
+            }
             Err(_) => false,
         }
     }
@@ -232,9 +280,9 @@ where
         Err(Refusal::GaveUp)
     }
 
-    /// Offers the payment, and looks each millisecond for the answer, as a program does that has more to do. Errors: by
-    /// what the link refuses it; 65: a minute has passed.
-    fn offer(&self) -> Result<(), Refusal> {
+    /// Offers the payment, and looks each millisecond for the answer, as a program does that has more to do: the id of
+    /// the HTLC. Errors: by what the link refuses it; 65: a minute has passed.
+    fn offer(&self) -> Result<u64, Refusal> {
         let rt = &self.rt;
         let Ok(ticket) = self.payer.ask(rt, 0, payment(self.host.alloc())?) else {
             return Err(Refusal::GaveUp);
@@ -242,7 +290,7 @@ where
         for _ in 0..60_000 {
             match self.payer.answer(rt, ticket) {
                 Answer::Pending => thread::sleep(self.host, Duration::from_millis(1)),
-                Answer::Done(_) => return Ok(()),
+                Answer::Done(id) => return Ok(id),
                 Answer::Refused(refusal) => return Err(refusal),
                 Answer::Forgotten => break,
             }
@@ -250,15 +298,15 @@ where
         Err(Refusal::GaveUp)
     }
 
-    /// Pays, until `paid` isn't 0. Error 65: a minute has passed.
+    /// Pays, until `paid` tells that the payer's HTLCs up to this one are fulfilled. Error 65: a minute has passed.
     fn pay(&self, paid: &AtomicU64) -> Result<(), Refusal> {
         let rt = &self.rt;
         self.payee.book().lock(rt).set_height(100);
         self.payee.book().lock(rt).expect(PREIMAGE, SECRET, AMOUNT)?;
         self.confirm()?;
-        self.offer()?;
+        let id = self.offer()?;
         for _ in 0..60_000 {
-            if paid.load(Ordering::SeqCst) > 0 {
+            if paid.load(Ordering::SeqCst) > id {
                 return Ok(());
             }
             thread::sleep(self.host, Duration::from_millis(1));
@@ -275,15 +323,9 @@ where
         }
     }
 
-    /// Opens the channel, pays, and stops both nodes.
-    fn play(
-        mut self,
-        stores: (S, S),
-        tables: (T, T),
-        hook: H,
-        paid: &AtomicU64,
-    ) -> Result<(), Refusal> {
-        let mut done = self.open(stores, tables);
+    /// Where the channel is there, pays; then stops both nodes.
+    fn play(self, begun: Result<(), Refusal>, hook: H, paid: &AtomicU64) -> Result<(), Refusal> {
+        let mut done = begun;
         let _ = self.payer.register_hook(&self.rt, 0, hook);
         if done.is_ok() {
             done = self.pay(paid);
@@ -302,7 +344,32 @@ where
     }
 }
 
-/// Makes both nodes, which then play.
+/// A node that starts again with the channel that its store has a record of.
+fn restored<S, H, T, R>(
+    rt: R,
+    alloc: Global,
+    keys: ToyKeys,
+    store: S,
+    table: T,
+    address: Option<SocketAddr>,
+) -> Result<MyNode<S, H, T>, Refusal>
+where
+    S: RecordStore + Drop + Send + 'static,
+    H: Drop + Send + 'static,
+    T: Table<H> + Drop + Send + 'static,
+    R: Net<Listener = TcpListener, Stream = TcpStream> + Threads + Wait + Copy + Send + 'static,
+{
+    let mut stored = Vec::new(alloc);
+    stored.push(Stored {
+        keys,
+        store,
+        table,
+        address,
+    })?;
+    Node::restore(rt, alloc, ToyOnion, POLICY, stored)
+}
+
+/// Makes both nodes, with the channel that their stores have or with a new one, and plays. Whether it was there.
 fn run<S, H, T, R>(
     rt: R,
     host: &HostRuntime,
@@ -310,7 +377,7 @@ fn run<S, H, T, R>(
     tables: (T, T),
     hook: H,
     paid: &AtomicU64,
-) -> Result<(), Refusal>
+) -> Result<bool, Refusal>
 where
     S: RecordStore + Drop + Send + 'static,
     H: Drop + Send + 'static,
@@ -323,12 +390,24 @@ where
         + Send
         + 'static,
 {
-    let nodes: Nodes<'_, S, H, T, R> = Nodes::new(rt, host)?;
-    nodes.play(stores, tables, hook, paid)
+    let (mut of_payer, of_payee) = stores;
+    if of_payer.ids(host.alloc())?.is_empty() {
+        let mut nodes: Nodes<'_, S, H, T, R> = Nodes::new(rt, host)?;
+        nodes.set();
+        let begun = nodes.open((of_payer, of_payee), tables);
+        nodes.play(begun, hook, paid)?;
+        return Ok(false);
+    }
+    let mut nodes: Nodes<'_, S, H, T, R> = Nodes::load(rt, host, (of_payer, of_payee), tables)?;
+    nodes.set();
+    let begun = nodes.reconnect();
+    nodes.play(begun, hook, paid)?;
+    Ok(true)
 }
 
-/// Records in two files, whose saves are logged, and a hook that counts the payer's payments once they are fulfilled.
-fn begin<R>(rt: R, host: &HostRuntime) -> Result<(), Refusal>
+/// Records in two files, whose saves are logged, and a hook that tells which of the payer's payments are fulfilled.
+/// Whether the files had the channel.
+fn begin<R>(rt: R, host: &HostRuntime) -> Result<bool, Refusal>
 where
     R: Net<Listener = TcpListener, Stream = TcpStream>
         + Threads
@@ -344,11 +423,12 @@ where
     let count = Arc::try_clone(&paid)?;
     let call: Call = Box::new(alloc, move |event: &ChannelEvent| -> Verdict {
         if let ChannelEvent::Settled {
+            id,
             how: How::Fulfilled(_),
             ..
         } = event
         {
-            count.fetch_add(1, Ordering::SeqCst);
+            count.store(id.saturating_add(1), Ordering::SeqCst);
         }
         Verdict::Continue
     })?;
@@ -365,14 +445,35 @@ where
     )
 }
 
+/// Any port of this machine.
+fn any_port() -> SocketAddr {
+    SocketAddr::from(([127, 0, 0, 1], 0))
+}
+
+/// Starts both nodes, pays and stops them, and does so again over the same files.
+fn start_twice<R>(rt: R, host: &HostRuntime) -> Result<(), Refusal>
+where
+    R: Net<Listener = TcpListener, Stream = TcpStream>
+        + Threads
+        + Wait
+        + Log
+        + Clock
+        + Copy
+        + Send
+        + 'static,
+{
+    for _ in 0..2 {
+        let channel = if begin(rt, host)? { "loaded" } else { "new" };
+        let _ = println!(host; "paid {AMOUNT} over the {channel} channel");
+    }
+    Ok(())
+}
+
 /// Logs on the standard error; with `Level::Trace` it logs messages, too.
 fn main(rt: HostRuntime) -> ExitCode {
     let logged = Logged::new(rt, Level::Debug, Console(rt));
-    match begin(logged, &rt) {
-        Ok(()) => {
-            let _ = println!(&rt; "paid {AMOUNT}");
-            ExitCode::SUCCESS
-        }
+    match start_twice(logged, &rt) {
+        Ok(()) => ExitCode::SUCCESS,
         Err(refusal) => {
             let _ = eprintln!(&rt; "{refusal}");
             ExitCode::FAILURE

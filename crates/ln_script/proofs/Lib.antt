@@ -8,6 +8,7 @@ pub mod Hooks
 pub mod Places
 pub mod Script
 pub mod FirstBad
+pub mod Flaws
 pub mod Walk
 pub mod Registered
 pub mod Widths

@@ -1,9 +1,11 @@
 -- What each command of the program does with its input and output, where their bytes are known.
 use Rattle.std.specs.Prelude.{◌≡◌, ◌≢◌, ◌⊎◌, ℕ, ◌-◌, ◌^◌, ◌≤◌, List, Option, Result, Err, IfSome, string_bytes}
+use Rattle.std.specs.Prelude.{true, false}
 use Rattle.std.specs.Prelude.{if◌then◌else◌}
 use Rattle.std.specs.Str.{is_utf8}
 use Rattle.ln_bytes.specs.declared.fault.Fault.{Fault}
 use Rattle.ln_bytes.specs.declared.fault.Fault.TheVariants as fault
+use Rattle.ln_refusals.specs.declared.refusal.Refusal.{Refusal}
 use Rattle.ln_refusals.specs.declared.refusal.Refusal.TheVariants.{Memory, Io, BadScript}
 use Rattle.ln_refusals.specs.Refusal.{refusal_of}
 use Rattle.ln_msgs.specs.Pings.Counted.{HasRisen}
@@ -16,6 +18,9 @@ use Rattle.ln_script.specs.declared.program.choice.Choice.{Choice}
 use Rattle.ln_script.specs.declared.program.choice.Choice.TheVariants as choice
 use Rattle.ln_script.specs.declared.program.program_error.ProgramError.{ProgramError}
 use Rattle.ln_script.specs.declared.program.program_error.ProgramError.TheVariants.{Refused}
+use Rattle.ln_script.specs.declared.program.program_error.ProgramError.TheVariants as error
+use Rattle.ln_script.specs.declared.bad_line.BadLine.{BadLine}
+use Rattle.ln_script.specs.Flaw.{bad_line_in}
 use Rattle.ln_script.specs.Printed.{Prints, PrintsPartly}
 use Rattle.ln_script.specs.Text.{decoded}
 
@@ -30,6 +35,24 @@ Simulates old new bytes = ReportsScript SaysOf (script_hooks bytes) (script_in b
 -- a beginning of it, or nothing where there is none
 abbrev pub SimulatesPartly : Option (List ℕ) → Option (List ℕ) → List ℕ → Type 0
 SimulatesPartly old new bytes = ReportsScriptPartly SaysOf (script_hooks bytes) (script_in bytes) old new
+
+-- what is told where a script's text is refused: of a bad line what is wrong with it
+abbrev pub told_refusal : List ℕ → Refusal → ProgramError
+told_refusal text (BadScript line) = error.BadLine (bad_line_in text line)
+told_refusal text r = Refused r
+
+-- by one of its lines, or the whole of it
+abbrev pub IsOfScript : ProgramError → Type 0
+IsOfScript f = (f ≡ error.NotText) ⊎ ((bad : BadLine) × (f ≡ error.BadLine bad))
+
+-- the first bad line, and what is wrong with it
+abbrev pub IsBadText : List ℕ → ProgramError → Type 0
+IsBadText text f = (line : ℕ) × (f ≡ error.BadLine (bad_line_in text line)) × (script_at text ≡ Err line)
+
+-- that, or the bytes are no text
+abbrev pub AreNoScript : List ℕ → ProgramError → Type 0
+AreNoScript bytes f = ((f ≡ error.NotText) × (is_utf8 bytes ≡ false))
+    ⊎ ((is_utf8 bytes ≡ true) × IsBadText bytes f)
 
 module _ (input input_after output output_after : Option (List ℕ)) where
   -- all that a command is for
@@ -52,7 +75,7 @@ module _ (input input_after output output_after : Option (List ℕ)) where
   StopsBy failed (choice.Decode text) f =
       (f ≡ Refused Memory) ⊎ ((f ≡ Refused Io) × failed) ⊎ (decoded (string_bytes text) ≡ Err f)
   StopsBy failed choice.Simulate f = (f ≡ Refused Memory) ⊎ ((f ≡ Refused Io) × failed)
-      ⊎ ((line : ℕ) × (f ≡ Refused (BadScript line)) × IfSome input (λ bytes. script_in bytes ≡ Err line))
+      ⊎ (IsOfScript f × IfSome input (λ bytes. AreNoScript bytes f))
 
 -- a call of one of them failed, or they were called 2^64 - 1 times
 abbrev pub HasFailed : (reads reads_after writes writes_after calls : ℕ) → Type 0

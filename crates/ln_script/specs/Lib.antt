@@ -10,6 +10,7 @@ pub mod Hook
 pub mod Step
 pub mod Wide
 pub mod Script
+pub mod Flaw
 pub mod LineText
 pub mod Report
 pub mod Telling

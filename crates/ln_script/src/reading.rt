@@ -24,7 +24,7 @@ pub fn lines_of(alloc: Global, text: &str) -> Result<Vec<&str>, AllocError>
 }
 
 /// The words of a line.
-fn words_of(alloc: Global, line: &str) -> Result<Vec<&str>, AllocError>
+pub(crate) fn words_of(alloc: Global, line: &str) -> Result<Vec<&str>, AllocError>
     ensures { IfOk result (λ v. texts v.items ≡ words line.now) }
 {
     line.split(' ').collect(alloc)

@@ -62,24 +62,23 @@ fn no_case(alloc: Global, line: usize) -> io::Result<Option<String>> {
     Ok(Some(format!(in alloc; "line {line}\nno case\n")?))
 }
 
-/// Where a script of one line prints another report, with that line's number for the report's.
-fn fault_in_lines(alloc: Global, case: &Case) -> io::Result<Option<String>> {
-    let mut line = case.line;
+/// Where a script of one line prints another report than the report's line for it; the first of these is this one of
+/// the file.
+fn fault_in_lines(alloc: Global, case: &Case, first: usize) -> io::Result<Option<String>> {
+    let mut reports = case.report.split_inclusive('\n');
+    let mut line = first;
     for script in case.given.split_inclusive('\n') {
-        line = line.saturating_add(1);
-        let fault = fault_in(
-            alloc,
-            case.name,
-            Choice::Simulate,
-            script,
-            case.report,
-            line,
-        )?;
+        let report = reports.next().unwrap_or("");
+        let fault = fault_in(alloc, case.name, Choice::Simulate, script, report, line)?;
         if fault.is_some() {
             return Ok(fault);
         }
+        line = line.saturating_add(1);
     }
-    Ok(None)
+    match reports.next() {
+        None => Ok(None),
+        Some(_) => no_case(alloc, line),
+    }
 }
 
 /// What is wrong with the case that begins at this line, after its `== `, where something is: its name, the number of a
@@ -97,7 +96,7 @@ pub fn fault_of(alloc: Global, line: usize, piece: &str) -> io::Result<Option<St
             let choice = Choice::Decode(String::from_str(alloc, digits)?);
             fault_in(alloc, name, choice, "", report, first)
         }
-        "lines" => fault_in_lines(alloc, &case),
+        "lines" => fault_in_lines(alloc, &case, first),
         _ => no_case(alloc, line),
     }
 }

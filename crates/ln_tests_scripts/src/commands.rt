@@ -26,7 +26,7 @@ fn answered(alloc: Global, line: &str, input: &[u8]) -> Result<String, ProgramEr
     perform(alloc, choice, &mut reader, &mut writer)?;
     match str::from_utf8(writer.get_ref().as_slice()) {
         Ok(text) => Ok(String::from_str(alloc, text)?),
-        Err(_) => Err(ProgramError::NotHex),
+        Err(_) => Err(ProgramError::NotText),
     }
 }
 
@@ -48,8 +48,12 @@ fn commands(rt: HostRuntime) -> Result<(), Fail> {
     for (line, input, text) in [
         ("answer", b"".as_slice(), ""),
         ("answer", ping.as_slice(), "\0\x06\0\x13\0\x02\0\0"),
-        ("answer", b"\0\x06\0\x12", "refused 1, 1"),
-        ("sim", b"\xff", "refused 64 line 0, 1"),
+        ("answer", b"\0\x06\0\x12", "refused 1 Truncated, 1"),
+        (
+            "sim",
+            b"\xff",
+            "the script isn't UTF-8 (refused 64 BadScript), 1",
+        ),
     ] {
         let got = shown(rt.alloc(), line, input)?;
         assert_eq!(rt; got.as_str(), text, "{line}");
@@ -77,5 +81,15 @@ fn small_decode(rt: HostRuntime) -> Result<(), ProgramError> {
 fn small_sim(rt: HostRuntime) -> Result<(), ProgramError> {
     let got = answered(rt.alloc(), "sim", b"sign A0\n")?;
     assert_eq!(rt; got.as_str(), "idle\n");
+    Ok(())
+}
+
+#[test]
+fn small_bad_line(rt: HostRuntime) -> Result<(), ProgramError> {
+    match answered(rt.alloc(), "sim", b"sign C100\n") {
+        Err(ProgramError::BadLine(bad)) => assert_eq!(rt; bad.word.as_str(), "C100"),
+        Err(error) => return Err(error),
+        Ok(text) => assert_eq!(rt; text.as_str(), "a bad line"),
+    }
     Ok(())
 }

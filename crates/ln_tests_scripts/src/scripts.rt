@@ -1,11 +1,10 @@
-//! Scripts that are read whole, writers that fail, and what is told of words that are no command.
+//! Scripts that are read whole, and writers that fail.
 
 use ln_msgs::Counted;
 use ln_refusals::Refusal;
-use ln_script::{ProgramError, first_bad_line, hook_lines, print_all, print_report, read_script};
+use ln_script::{first_bad_line, hook_lines, print_all, print_report, read_script};
 use ln_tests_parts::Narrow;
 use std::alloc::Global;
-use std::test::Fail;
 
 /// Whether this is the report of a script, with the hooks that its lines ask for.
 fn is_shown(alloc: Global, script: &str, report: &str) -> Result<bool, Refusal> {
@@ -51,13 +50,4 @@ fn failing_writers(rt: HostRuntime) {
     ] {
         assert_eq!(rt; cut_short(rt.alloc(), "idle\n", calls), (result, written));
     }
-}
-
-// The line for standard error, and the exit status.
-#[test]
-fn usage(rt: HostRuntime) -> Result<(), Fail> {
-    let failure = ProgramError::Usage;
-    let told = format!(in rt.alloc(); "{failure}, {}", failure.status())?;
-    assert_eq!(rt; told.as_str(), "usage, 2");
-    Ok(())
 }

@@ -4,7 +4,8 @@ use ln_words::{Asked, Unasked, choose};
 use std::alloc::Global;
 use std::test::*;
 
-/// What these words ask for: the command's name, or the text that is to be decoded; or why they ask for nothing.
+/// What these words ask for: the command's name, the text that is to be decoded or the help; or why they ask for
+/// nothing.
 fn shown(alloc: Global, words: &[&str]) -> Result<String, Fail> {
     let mut all = Vec::new(alloc);
     for word in words {
@@ -15,7 +16,8 @@ fn shown(alloc: Global, words: &[&str]) -> Result<String, Fail> {
         Ok(Asked::Simulate) => String::from_str(alloc, "sim")?,
         Ok(Asked::Decode(hex)) => hex,
         Ok(Asked::Demo) => String::from_str(alloc, "demo")?,
-        Err(Unasked::Usage) => String::from_str(alloc, "usage")?,
+        Ok(Asked::Help(text)) => text,
+        Err(Unasked::Usage(text)) => text,
         Err(Unasked::Memory) => String::from_str(alloc, "no memory")?,
     };
     Ok(text)
@@ -35,24 +37,10 @@ const LINES: &str = "\
 answer=answer
 sim=sim
 demo=demo
-demo|more=usage
 decode|0015=0015
 decode| 0015= 0015
 decode|=
-decode|-=-
-decode=usage
-decode|00|11=usage
-sim|more=usage
-=usage
-answers=usage
-answer|more=usage
-Answer=usage
---help=usage
--h=usage
-help=usage
-answer|--help=usage
-decode|-h=usage
---version=usage";
+decode|-=-";
 
 #[test]
 fn command_lines(rt: HostRuntime) -> Result<(), Fail> {
@@ -61,8 +49,80 @@ fn command_lines(rt: HostRuntime) -> Result<(), Fail> {
         let got = shown_of(rt.alloc(), parts.next().unwrap_or(""))?;
         assert_eq!(rt; got.as_str(), parts.next().unwrap_or(""), "{line}");
     }
-    let got = shown(rt.alloc(), &[])?;
-    assert_eq!(rt; got.as_str(), "usage");
+    Ok(())
+}
+
+/// Words that are no command, parted by bars, and the first line of what is told of them; no words before the first.
+const USAGES: &str = "\
+=error: unrecognized subcommand ''
+answers=error: unrecognized subcommand 'answers'
+Answer=error: unrecognized subcommand 'Answer'
+help=error: unrecognized subcommand 'help'
+demo|more=error: unexpected argument 'more' found
+decode=error: the following required arguments were not provided:
+decode|00|11=error: unexpected argument '11' found
+sim|more=error: unexpected argument 'more' found
+answer|more=error: unexpected argument 'more' found
+--version=error: unexpected argument '--version' found";
+
+// Words that are no command: why, and what is one.
+#[test]
+fn usage(rt: HostRuntime) -> Result<(), Fail> {
+    for line in USAGES.split('\n') {
+        let mut parts = line.split('=');
+        let got = shown_of(rt.alloc(), parts.next().unwrap_or(""))?;
+        let first = got.as_str().split('\n').next().unwrap_or("");
+        assert_eq!(rt; first, parts.next().unwrap_or(""), "{line}");
+        assert!(rt; got.as_str().contains("\nUsage: lnlink "), "{line}");
+    }
+    Ok(())
+}
+
+const HELP: &str = "\
+Channel links of a Lightning node
+
+Usage: lnlink <COMMAND>
+
+Commands:
+  sim     Runs the script on standard input, and prints its report
+  decode  Prints the message that HEX spells, a line a field
+  answer  Answers the pings among the frames on standard input
+  demo    Runs three nodes over loopback, and a payment
+
+Options:
+  -h, --help  Print help
+";
+
+const HELP_OF_DECODE: &str = "\
+Prints the message that HEX spells, a line a field
+
+Usage: lnlink decode <HEX>
+
+Arguments:
+  <HEX>  The message, without its frame: two digits a byte
+
+Options:
+  -h, --help  Print help
+";
+
+// The program's help and a command's, by either word; no words at all are usage.
+#[test]
+fn help(rt: HostRuntime) -> Result<(), Fail> {
+    for (line, text) in [
+        ("--help", HELP),
+        ("-h", HELP),
+        ("--help|sim", HELP),
+        ("decode|--help", HELP_OF_DECODE),
+        ("decode|-h", HELP_OF_DECODE),
+    ] {
+        let got = shown_of(rt.alloc(), line)?;
+        assert_eq!(rt; got.as_str(), text, "{line}");
+    }
+    let none = shown(rt.alloc(), &[])?;
+    assert!(rt;
+        none.as_str()
+            .starts_with("error: 'lnlink' requires a subcommand")
+    );
     Ok(())
 }
 

@@ -13,13 +13,15 @@ pub enum Asked {
     Demo,
     /// `sim`: run the script on standard input.
     Simulate,
+    /// `--help` or `-h`, of the program or after a command: print this text.
+    Help(String),
 }
 
 /// Why words ask for nothing.
-#[derive(Clone, Copy)]
+#[derive(Drop)]
 pub enum Unasked {
-    /// They are no command.
-    Usage,
+    /// They are no command. The text says why and what is one, and ends in a line feed.
+    Usage(String),
     /// There is no memory to read them.
     Memory,
 }

@@ -1,7 +1,7 @@
 //! What each command does, over any reader and writer.
 
 ghost use Rattle.std.specs.Prelude.{◌≡◌, ◌⊎◌, ◌+◌, ℕ, Err, OnOk, OnErr, IfOk, IfErr, IfSome};
-ghost use Rattle.ln_refusals.specs.declared.refusal.Refusal.TheVariants.{Memory, Io, BadScript};
+ghost use Rattle.ln_refusals.specs.declared.refusal.Refusal.TheVariants.{Memory, Io};
 ghost use Rattle.ln_msgs.specs.Pings.Counted.{HasRisen};
 ghost use Rattle.ln_msgs.specs.Pings.CountedView.{inner_of, failures_of, calls_of};
 ghost use Rattle.ln_script.specs.Hook.{SaysOf};
@@ -9,8 +9,10 @@ ghost use Rattle.ln_script.specs.Script.{script_at, script_hooks};
 ghost use Rattle.ln_script.specs.Report.{ReportsScript, ReportsScriptPartly};
 ghost use Rattle.ln_script.specs.Printed.{Prints, PrintsPartly};
 ghost use Rattle.ln_script.specs.Text.{decoded};
-ghost use Rattle.ln_script.specs.Done.{script_in, Simulates, SimulatesPartly, Does, DoesPartly, StopsBy, HasFailed};
+ghost use Rattle.ln_script.specs.Done.{Simulates, SimulatesPartly, Does, DoesPartly, StopsBy, HasFailed};
+ghost use Rattle.ln_script.specs.Done.{told_refusal, IsOfScript, IsBadText, AreNoScript};
 
+use crate::flaw_in::bad_line_in;
 use crate::print::print_all;
 use crate::program::choice::Choice;
 use crate::program::input::{read_all, script_text};
@@ -65,6 +67,19 @@ fn print_decoded<W: Write>(
     Ok(())
 }
 
+/// What is told of a script that is refused: of a bad line what is wrong with it. 60 where there is no memory for that.
+fn error_of(alloc: Global, text: &str, refusal: Refusal) -> ProgramError
+    ensures { (result ≡ ProgramError.Refused Memory) ⊎ (result ≡ told_refusal text.now refusal) }
+{
+    match refusal {
+        Refusal::BadScript { line } => match bad_line_in(alloc, text, line) {
+            Ok(bad) => ProgramError::BadLine(bad),
+            Err(error) => ProgramError::from(error),
+        },
+        _ => ProgramError::Refused(refusal),
+    }
+}
+
 /// Runs a script with the hooks that its lines ask for, and writes its report (`report_script`).
 fn simulate_text<W: Write>(
     alloc: Global,
@@ -77,15 +92,16 @@ fn simulate_text<W: Write>(
         (W.contents (inner_of writer.old)) (W.contents (inner_of writer.new))) }
     ensures cause { IfErr result (λ f. (f ≡ ProgramError.Refused Memory)
         ⊎ ((f ≡ ProgramError.Refused Io) × HasRisen (failures_of writer.old) (failures_of writer.new))
-        ⊎ ((line : ℕ) × (f ≡ ProgramError.Refused (BadScript line)) × (script_at text.now ≡ Err line))) }
+        ⊎ IsBadText text.now f) }
 {
     let hooks = hook_lines(alloc, text)?;
-    report_script(alloc, text, hooks, writer)?;
-    Ok(())
+    match report_script(alloc, text, hooks, writer) {
+        Ok(()) => Ok(()),
+        Err(refusal) => Err(error_of(alloc, text, refusal)),
+    }
 }
 
-/// Runs the script that these bytes are, and writes its report (`report_script`). 64 with line 0 where they aren't
-/// UTF-8.
+/// Runs the script that these bytes are, and writes its report (`report_script`). `NotText` where they aren't UTF-8.
 fn simulate_bytes<W: Write>(
     alloc: Global,
     bytes: &[u8],
@@ -97,7 +113,7 @@ fn simulate_bytes<W: Write>(
         bytes.now) }
     ensures cause { IfErr result (λ f. (f ≡ ProgramError.Refused Memory)
         ⊎ ((f ≡ ProgramError.Refused Io) × HasRisen (failures_of writer.old) (failures_of writer.new))
-        ⊎ ((line : ℕ) × (f ≡ ProgramError.Refused (BadScript line)) × (script_in bytes.now ≡ Err line))) }
+        ⊎ AreNoScript bytes.now f) }
 {
     let text = script_text(bytes)?;
     simulate_text(alloc, text, writer)?;
@@ -117,8 +133,7 @@ fn simulate_input<R: Read, W: Write>(
     ensures cause { IfErr result (λ f. (f ≡ ProgramError.Refused Memory)
         ⊎ ((f ≡ ProgramError.Refused Io) × (HasRisen (failures_of reader.old) (failures_of reader.new)
         ⊎ HasRisen (failures_of writer.old) (failures_of writer.new)))
-        ⊎ ((line : ℕ) × (f ≡ ProgramError.Refused (BadScript line))
-        × IfSome (R.remaining (inner_of reader.old)) (λ bytes. script_in bytes ≡ Err line))) }
+        ⊎ (IsOfScript f × IfSome (R.remaining (inner_of reader.old)) (λ bytes. AreNoScript bytes f))) }
 {
     let bytes = read_all(alloc, reader)?;
     simulate_bytes(alloc, bytes.as_slice(), writer)
@@ -126,9 +141,9 @@ fn simulate_input<R: Read, W: Write>(
 
 /// Does what a command is for, and flushes what it has written. Takes memory.
 ///
-/// Errors: those of `ln_msgs::answer_pings`, `decode_text` and `report_script` by the number of the refusal; 63 also
-/// where a script can't be read. 63 comes only where a call of the reader or the writer failed, or after 2^64 - 1 of
-/// them. What was written by then is a beginning.
+/// Errors: those of `ln_msgs::answer_pings`, `decode_text` and `report_script` by the number of the refusal, a script's
+/// bad line with what is wrong with it; 63 also where a script can't be read. 63 comes only where a call of the reader
+/// or the writer failed, or after 2^64 - 1 of them. What was written by then is a beginning.
 pub fn perform<R: Read, W: Write>(
     alloc: Global,
     choice: Choice,

@@ -3,7 +3,7 @@
 ghost use Rattle.std.specs.Prelude.{◌≡◌, ◌≤◌, ◌<◌, ◌⊎◌, ◌^◌, length, Ok, true, false, OnOk, IfOk, IfErr, IfSome};
 ghost use Rattle.std.specs.Str.{is_utf8};
 ghost use Rattle.std.specs.Io.KnownBytes.{Keeps, IsAtEnd, prepend_known};
-ghost use Rattle.ln_refusals.specs.declared.refusal.Refusal.TheVariants.{Memory, Io, BadScript};
+ghost use Rattle.ln_refusals.specs.declared.refusal.Refusal.TheVariants.{Memory, Io};
 ghost use Rattle.ln_msgs.specs.Pings.Counted.{HasRisen};
 ghost use Rattle.ln_msgs.specs.Pings.CountedView.{inner_of, failures_of};
 
@@ -53,13 +53,13 @@ pub fn read_all<R: Read>(alloc: Global, reader: &mut Counted<R>) -> Result<Vec<u
     Ok(bytes)
 }
 
-/// The text of a script: its bytes, where they are UTF-8. 64 with line 0 where they aren't.
+/// The text of a script: its bytes, where they are UTF-8. `NotText` where they aren't.
 pub(crate) fn script_text(bytes: &[u8]) -> Result<&str, ProgramError>
     ensures gives_the_bytes { IfOk result (λ text. (is_utf8 bytes.now ≡ true) × (text.now ≡ bytes.now)) }
-    ensures refused { IfErr result (λ f. (is_utf8 bytes.now ≡ false) × (f ≡ ProgramError.Refused (BadScript 0))) }
+    ensures refused { IfErr result (λ f. (is_utf8 bytes.now ≡ false) × (f ≡ ProgramError.NotText)) }
 {
     match str::from_utf8(bytes) {
         Ok(text) => Ok(text),
-        Err(_) => Err(ProgramError::Refused(Refusal::BadScript { line: 0 })),
+        Err(_) => Err(ProgramError::NotText),
     }
 }

@@ -1,20 +1,21 @@
 //! Why the program ends without success.
 
+use crate::bad_line::BadLine;
 use ln_refusals::Refusal;
 use std::alloc::{AllocError, AllocFailed};
-use thiserror::Error;
+use std::fmt;
+use std::fmt::{Display, Formatter};
 
-/// Why there is nothing to run, or why a run was refused. Its text is the line for standard error.
-#[derive(Clone, Copy, Debug, PartialEq, Eq, Error)]
+/// Why a run ended before its end. Its text is the line for standard error, with the refusal's number and name.
+#[derive(Debug, Drop)]
 pub enum ProgramError {
-    /// The words aren't a command. Exit status 2.
-    #[error("usage")]
-    Usage,
     /// The text isn't hexadecimal. Exit status 2.
-    #[error("not hex")]
     NotHex,
+    /// The script isn't UTF-8: 64, for the whole text. Exit status 1.
+    NotText,
+    /// A line of the script isn't one: 64. Exit status 1.
+    BadLine(BadLine),
     /// The run was refused. Exit status 1.
-    #[error("{0}")]
     Refused(Refusal),
 }
 
@@ -27,9 +28,26 @@ impl ProgramError {
         ensures { result ≡ status_of self.now }
     {
         match self {
-            ProgramError::Usage => 2,
             ProgramError::NotHex => 2,
+            ProgramError::NotText => 1,
+            ProgramError::BadLine(_) => 1,
             ProgramError::Refused(_) => 1,
+        }
+    }
+}
+
+impl Display for ProgramError {
+    ghost use Rattle.std.specs.Prelude.{Some};
+    ghost use Rattle.ln_script.specs.ProgramError.{error_text};
+
+    ghost output = { λ e. Some (error_text e) };
+
+    fn fmt<W: fmt::Write>(&self, f: &mut Formatter<W>) -> fmt::Result {
+        match self {
+            ProgramError::NotHex => write!(f, "the message isn't hexadecimal, two digits a byte"),
+            ProgramError::NotText => write!(f, "the script isn't UTF-8 (refused 64 BadScript)"),
+            ProgramError::BadLine(bad) => write!(f, "{bad}"),
+            ProgramError::Refused(refusal) => write!(f, "{refusal} {}", refusal.name()),
         }
     }
 }

@@ -11,17 +11,16 @@ pub returns-in_err-hooks-clause-front : goal.returns-in_err-hooks-clause-front
 returns-in_err-hooks-clause-front g c =
     on_err_so c.from_residual.result _ (nothing_told SaysOf (script_hooks c.args.text.now) _ _)
 
-pub returns-in_err-report_script-clause-front : goal.returns-in_err-report_script-clause-front
-returns-in_err-report_script-clause-front g c =
+pub returns-in-Err-clause-front : goal.returns-in-Err-clause-front
+returns-in-Err-clause-front g c =
     let old = g.W.Write.contents (inner_of c.args.writer.now) in
     let new = g.W.Write.contents (inner_of c.report_script.new.writer) in
-    on_err_so c.from_residual-in_err-report_script.result _
-    (subst (λ (hs : List HookLine). ReportsScriptPartly SaysOf hs (script_at c.args.text.now) old new)
-    c.in_ok-hooks.ensures.hooks c.in_err-report_script.ensures.front)
+    subst (λ (hs : List HookLine). ReportsScriptPartly SaysOf hs (script_at c.args.text.now) old new)
+    c.in_ok-hooks.ensures.hooks c.in-Err.ensures.front
 
-pub returns-clause-prints_it : goal.returns-clause-prints_it
-returns-clause-prints_it g c =
+pub returns-in-Ok-clause-prints_it : goal.returns-in-Ok-clause-prints_it
+returns-in-Ok-clause-prints_it g c =
     let old = g.W.Write.contents (inner_of c.args.writer.now) in
     let new = g.W.Write.contents (inner_of c.report_script.new.writer) in
     subst (λ (hs : List HookLine). ReportsScript SaysOf hs (script_at c.args.text.now) old new)
-    c.in_ok-hooks.ensures.hooks c.in_ok-report_script.ensures.prints_it
+    c.in_ok-hooks.ensures.hooks c.in-Ok.ensures.prints_it
