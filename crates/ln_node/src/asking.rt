@@ -237,8 +237,8 @@ where
     W: Read + Write + OpenStream + Drop + Send + 'static,
 {
     /// Orders a channel's link to do this, as `order` does, and gives the order's ticket, by which `answer` tells what
-    /// has become of it. A full relay, or a channel that there isn't, hands the command back. `Decide`, `Resume` and
-    /// `Forget` are the book's alone, and refused (40). Takes no memory.
+    /// has become of it. A full relay, or a channel that there isn't, hands the command back. What removes or forwards
+    /// an HTLC, `Decide`, `Resume` and `Forget` are the book's alone, and refused (40). Takes no memory.
     pub fn ask<R: Wait>(
         &self,
         rt: &R,
