@@ -12,4 +12,5 @@ pub mod Owing
 pub mod Losing
 pub mod Replying
 pub mod Removing
+pub mod Stopping
 pub mod Unsigned

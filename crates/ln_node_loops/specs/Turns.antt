@@ -373,9 +373,26 @@ pub record LoopState (S W H : Type 0) : Type 0 where
   pub replied : List Reply
   pub allowed : List Bool
 
--- the last item that was taken is Stop
-abbrev pub HasStopped : {W : Type 0} → List (Item W) → Type 0
-HasStopped {W} taken = (before : List (Item W)) × (taken ≡ before ++ item.Stop ∷ [])
+abbrev pub is_stop : {W : Type 0} → Item W → Bool
+is_stop (item.Joined w) = false
+is_stop (item.Read m) = false
+is_stop item.Broken = false
+is_stop (item.Order c) = false
+is_stop item.Stop = true
+
+-- none of them is Stop
+abbrev pub NoneStops : {W : Type 0} → List (Item W) → Type 0
+NoneStops [] = ⊤
+NoneStops (i ∷ is) = (is_stop i ≡ false) × NoneStops is
+
+-- what was taken since then has no Stop
+abbrev pub TakesNoStop : {W : Type 0} → List (Item W) → List (Item W) → Type 0
+TakesNoStop {W} taken taken' = (items : List (Item W)) × NoneStops items × (taken' ≡ taken ++ items)
+
+-- what was taken since then ends with its first Stop
+abbrev pub StopsAtOnce : {W : Type 0} → List (Item W) → List (Item W) → Type 0
+StopsAtOnce {W} taken taken' =
+    (before : List (Item W)) × TakesNoStop taken before × (taken' ≡ before ++ item.Stop ∷ [])
 
 module _ {S W H : Type 0} (acts : S → Act → Result (List Output) Refusal → S → Type 0) (halted : S → Bool)
     (pending : S → List (ℕ × ChannelEvent)) (owes : S → Bool) (seen : S → Option Seen) (contents : W → Option (List ℕ))
@@ -428,4 +445,4 @@ module _ {S W H : Type 0} (acts : S → Act → Result (List Output) Refusal →
     pub last_pending : mid.last ≡ last_of a.last (pending a.stand.end)
     pub told_pending : mid.said ≡ a.said ++ owed (seen a.stand.end) false (pending a.stand.end)
     pub ran : Ran false mid b
-    pub stopped : HasStopped b.taken
+    pub stopped : StopsAtOnce a.taken b.taken
