@@ -1,4 +1,5 @@
 pub mod Renewing
+pub mod Numbering
 pub mod Readings
 pub mod Loading
 pub mod Sent

@@ -22,3 +22,9 @@ module _ {K S T : Type 0} (records : S → Records) where
       → ((rest : List (Loaded K S T)) → AreLoaded records [] rest → AreLoaded records first (so ++ rest))
       → AreLoaded records first so
   no-more first so before = subst (AreLoaded records first) (append-nil so) (before [] tt)
+
+  pub as-many : (ss : List (Stored K S T)) (ls : List (Loaded K S T)) → AreLoaded records ss ls → length ls ≡ length ss
+  as-many [] [] are = refl
+  as-many [] (l ∷ ls) are = elim are [ ]
+  as-many (s ∷ ss) [] are = elim are [ ]
+  as-many (s ∷ ss) (l ∷ ls) are = omega (arith, as-many ss ls are.1)

@@ -1,4 +1,6 @@
 pub mod Opening
+pub mod Answers
+pub mod Held
 pub mod Books
 pub mod Stored
 pub mod Node

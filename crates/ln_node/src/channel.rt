@@ -1,5 +1,9 @@
 //! What a node has of a channel: its threads, and the seats that callers use.
 
+ghost use Rattle.std.specs.Prelude.{◌≡◌, ◌++◌, ◌∷◌, [], IfOk, IfErr, OnOk, OnErr};
+ghost use Rattle.ln_node_loops.specs.declared.item.Item.TheVariants as item;
+ghost use Rattle.ln_node_loops.specs.declared.task.Task.TheVariants as task;
+
 use crate::asking::{OrderAnswers, OrderReplies};
 use crate::reader::Connections;
 use crate::seat::{PatientSeat, WakingSeat};
@@ -87,30 +91,32 @@ pub(crate) struct Parts<E: Drop, B: Drop, T: Drop, W: Drop, L: Drop> {
 }
 
 // Hands a command on, unless the relay is full.
-fn order<W: Drop, R: Wait>(
+fn order<J: Drop, S: Sends<Item<J>>, R: Wait>(
     rt: &R,
-    seat: &mut ItemSeat<W>,
+    seat: &mut S,
     command: Command,
-) -> Result<(), Command> {
+) -> Result<(), Command>
+    ensures appends { OnOk result (S.put seat.new ≡ S.put seat.old ++ item.Order command ∷ []) }
+    ensures hands_back { IfErr result (λ back. back ≡ command) }
+    ensures changes_nothing_if_refused { OnErr result (S.put seat.new ≡ S.put seat.old) }
+{
     match seat.send(rt, Item::Order(command)) {
         Ok(()) => Ok(()),
         Err(Item::Order(back)) => Err(back),
-        Err(other) => {
-            drop(other);
-            Ok(())
-        }
+        Err(_) => unreachable!(),
     }
 }
 
 // Hands a hook on, unless the relay is full.
-fn register<H: Drop, R: Wait>(rt: &R, seat: &mut WaitSend<Task<H>>, hook: H) -> Result<(), H> {
+fn register<H: Drop, S: Sends<Task<H>>, R: Wait>(rt: &R, seat: &mut S, hook: H) -> Result<(), H>
+    ensures appends { OnOk result (S.put seat.new ≡ S.put seat.old ++ task.Register hook ∷ []) }
+    ensures hands_back { IfErr result (λ back. back ≡ hook) }
+    ensures changes_nothing_if_refused { OnErr result (S.put seat.new ≡ S.put seat.old) }
+{
     match seat.send(rt, Task::Register(hook)) {
         Ok(()) => Ok(()),
         Err(Task::Register(back)) => Err(back),
-        Err(other) => {
-            drop(other);
-            Ok(())
-        }
+        Err(_) => unreachable!(),
     }
 }
 
@@ -142,14 +148,16 @@ where
     H: Drop,
     W: Read + Write + OpenStream + Drop,
 {
+    ghost use Rattle.std.specs.Prelude.{◌≡◌, IfErr};
+
     /// Hands a command to its worker, and gives the order's number; a full relay hands it back.
-    pub(crate) fn order<R: Wait>(&self, rt: &R, command: Command) -> Result<u64, Command> {
+    pub(crate) fn order<R: Wait>(&self, rt: &R, command: Command) -> Result<u64, Command>
+        ensures hands_back { IfErr result (λ back. back ≡ command) }
+    {
         let mut seat = self.orders.lock(rt);
-        match order(rt, &mut seat, command) {
-            // The seat is held until the order is counted, so orders have their numbers in the relay's order.
-            Ok(()) => Ok(self.access.answers.put(rt)),
-            Err(back) => Err(back),
-        }
+        let put = order(rt, &mut *seat, command);
+        // The seat is held until the order is counted, so orders have their numbers in the relay's order.
+        self.access.answers.count(rt, put)
     }
 
     /// Where its orders are answered.
@@ -174,9 +182,11 @@ where
     }
 
     /// Hands a hook to its dispatcher; a full relay hands it back.
-    pub(crate) fn register_hook<R: Wait>(&self, rt: &R, hook: H) -> Result<(), H> {
+    pub(crate) fn register_hook<R: Wait>(&self, rt: &R, hook: H) -> Result<(), H>
+        ensures hands_back { IfErr result (λ back. back ≡ hook) }
+    {
         let mut seat = self.hooks.lock(rt);
-        register(rt, &mut seat, hook)
+        register(rt, &mut *seat, hook)
     }
 
     /// Shuts its connection. A reader that waits for the next one looks again.
@@ -202,7 +212,9 @@ where
     }
 
     /// Where it listens.
-    pub(crate) fn bound(&self) -> Option<SocketAddr> {
+    pub(crate) fn bound(&self) -> Option<SocketAddr>
+        ensures { result ≡ self.now.bound }
+    {
         self.bound
     }
 
@@ -296,6 +308,7 @@ where
     W: Read + Write + OpenStream + Drop + Send + 'static,
     L: OpenListener<Stream = W> + Drop + Send + 'static,
     R: Threads + Wait + Copy + Send + 'static,
+    ensures listens_there { IfOk result (λ c. c.bound ≡ parts.bound) }
 {
     let connections = Arc::try_clone(&parts.shares.access.connections)?;
     let Seats {

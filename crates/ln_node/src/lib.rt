@@ -1,9 +1,11 @@
 //! A node of a payment channel network, in threads over sockets.
 #![tactic(auto)]
 
+mod answers;
 mod asking;
 mod book;
 mod channel;
+mod held;
 mod node;
 mod notices;
 mod observed;
@@ -20,7 +22,8 @@ mod wakeup;
 mod wakeups;
 mod watch;
 
-pub use asking::{Answer, Ticket};
+pub use answers::Answer;
+pub use asking::Ticket;
 pub use book::SharedBook;
 pub use ln_book_tables::HeldHtlc;
 pub use ln_node_loops::{

@@ -1,8 +1,14 @@
 //! A node: its channels, each with its threads, and the book of its payments.
 
+ghost use Rattle.std.specs.Prelude.{◌≡◌, ◌++◌, ◌∷◌, [], true, false, if◌then◌else◌, Ok, Err, OnOk, OnErr, IfOk, IfErr};
+ghost use Rattle.std.specs.Prelude.{length};
+ghost use Rattle.ln_refusals.specs.declared.refusal.Refusal.TheVariants as refusal;
+ghost use Rattle.ln_node.specs.Node.{HasOneMore};
+
 use crate::asking::{OrderAnswers, OrderReplies};
 use crate::book::{Common, NodeBook, SharedBook};
 use crate::channel::{Access, ChannelThreads, Parts, Shares, start};
+use crate::held::numbered;
 use crate::notices::Notices;
 use crate::observed::ObservedStore;
 use crate::observer::{Monitor, Observer};
@@ -47,8 +53,12 @@ pub struct Node<K: ChannelKeys + Copy, S: Drop, O: Drop, H: Drop, T: Drop, W: Dr
 }
 
 impl<K: ChannelKeys + Copy, S: Drop, O: Drop, H: Drop, T: Drop, W: Drop> Node<K, S, O, H, T, W> {
+    ghost use Rattle.std.specs.Prelude.{◌≡◌};
+
     // Its channels; what else it has is dropped.
-    fn into_channels(self) -> Vec<ChannelThreads<S, H, W>> {
+    fn into_channels(self) -> Vec<ChannelThreads<S, H, W>>
+        ensures { result ≡ self.channels }
+    {
         let Node {
             stopping,
             common,
@@ -81,12 +91,17 @@ fn own_init(alloc: Global) -> Result<Box<Message>, AllocError> {
 }
 
 // Appends a value. False where there is no memory.
-fn keep<T: Drop>(kept: &mut Vec<T>, value: T) -> bool {
+fn keep<T: Drop>(kept: &mut Vec<T>, value: T) -> bool
+    ensures appends { result ≡ true → kept.new.items ≡ kept.old.items ++ value ∷ [] }
+    ensures changes_nothing { result ≡ false → kept.new.items ≡ kept.old.items }
+{
     kept.push(value).is_ok()
 }
 
 // What was kept, where it is all. Else 60.
-fn all_kept<T: Drop>(kept: Vec<T>, is_all: bool) -> Result<Vec<T>, Refusal> {
+fn all_kept<T: Drop>(kept: Vec<T>, is_all: bool) -> Result<Vec<T>, Refusal>
+    ensures { result ≡ (if is_all then Ok kept else Err refusal.Memory) }
+{
     if is_all {
         Ok(kept)
     } else {
@@ -142,11 +157,38 @@ where
     W: Read + Write + OpenStream + Drop + Send + 'static,
     L: OpenListener<Stream = W> + Drop + Send + 'static,
     R: Threads + Wait + Copy + Send + 'static,
+    ensures adds_one { OnOk result (HasOneMore parts.bound channels.old.items channels.new.items) }
+    ensures adds_none_if_refused { OnErr result (channels.new.items ≡ channels.old.items) }
 {
     channels.reserve(1)?;
     let channel = start(rt, alloc, parts)?;
     channels.push_reserved(channel);
     Ok(())
+}
+
+// Ends channels, and gives their stores, in their order. 60 where there is no memory for these; all have ended then,
+// too.
+fn end_all<S, H, W, R>(
+    rt: &R,
+    alloc: Global,
+    channels: Vec<ChannelThreads<S, H, W>>,
+) -> Result<Vec<S>, Refusal>
+where
+    S: Drop,
+    H: Drop,
+    W: Read + Write + OpenStream + Drop,
+    R: Threads + Wait,
+    ensures gives_all { IfOk result (λ stores. length stores.items ≡ length channels.items) }
+    ensures fails_for_memory_alone { IfErr result (λ e. e ≡ refusal.Memory) }
+{
+    let mut stores = Vec::new(alloc);
+    let mut are_kept = true;
+    for channel in channels {
+        if !keep(&mut stores, channel.end(rt)) {
+            are_kept = false;
+        }
+    }
+    all_kept(stores, are_kept)
 }
 
 impl<K, S, O, H, T, W> Node<K, S, O, H, T, W>
@@ -158,10 +200,13 @@ where
     T: Table<H> + Drop + Send + 'static,
     W: Read + Write + OpenStream + Drop + Send + 'static,
 {
-    ghost use Rattle.std.specs.Prelude.{◌≡◌, [], IfOk};
+    ghost use Rattle.std.specs.Prelude.{◌≡◌, ◌≤◌, ◌+◌, [], length, Some, None, Err, IfOk, IfErr, OnOk, OnErr};
+    ghost use Rattle.std.specs.declared.net.socket_addr.SocketAddr.{SocketAddr};
+    ghost use Rattle.ln_refusals.specs.declared.refusal.Refusal.TheVariants as refusal;
+    ghost use Rattle.ln_channel.specs.declared.command.Command.TheVariants as command;
     ghost use Rattle.ln_book.specs.Handles as handles;
     ghost use Rattle.ln_node.specs.Books.{begun_at};
-    ghost use Rattle.ln_node.specs.Node.{policy_of, begun_of};
+    ghost use Rattle.ln_node.specs.Node.{policy_of, begun_of, channel_count, address_of, HasOneMore};
     ghost use Rattle.ln_node.specs.Stored.{BeginsWithAll};
 
     /// A node without channels: it opens onions by this service, and forwards by this policy. Takes memory.
@@ -169,6 +214,7 @@ where
     /// Error: 60 where there is no memory.
     pub fn new(alloc: Global, onion: O, policy: Policy) -> Result<Node<K, S, O, H, T, W>, Refusal>
         ensures asks_by_the_policy { IfOk result (λ n. policy_of n ≡ policy) }
+        ensures has_no_channel { IfOk result (λ n. channel_count n ≡ 0) }
     {
         let monitor = Monitor::new(alloc)?;
         Node::with_book(alloc, onion, policy, Book::new(alloc), monitor)
@@ -184,6 +230,7 @@ where
     ) -> Result<Node<K, S, O, H, T, W>, Refusal>
         ensures asks_by_the_policy { IfOk result (λ n. policy_of n ≡ policy) }
         ensures begins_with_the_book { IfOk result (λ n. begun_of n ≡ book) }
+        ensures has_no_channel { IfOk result (λ n. channel_count n ≡ 0) }
     {
         let book = Arc::new(alloc, NodeBook::new(book))?;
         let notices = Notices::new(alloc, Arc::try_clone(&monitor)?)?;
@@ -302,6 +349,8 @@ where
         L: OpenListener<Stream = W> + Drop + Send + 'static,
         R: Threads + Wait + Copy + Send + 'static,
         ensures settings_stay { self.new.common ≡ self.old.common }
+        ensures adds_one { OnOk result (HasOneMore bound self.old.channels.items self.new.channels.items) }
+        ensures adds_none_if_refused { OnErr result (self.new.channels.items ≡ self.old.channels.items) }
     {
         let parts = Parts {
             end,
@@ -333,6 +382,9 @@ where
     where
         R: Net<Stream = W> + Threads + Wait + Copy + Send + 'static,
         R::Listener: Send + 'static,
+        ensures adds_one { OnOk result (channel_count self.new ≡ channel_count self.old + 1) }
+        ensures adds_none_if_refused { OnErr result (channel_count self.new ≡ channel_count self.old) }
+        ensures listens_there { IfOk result (λ bound. address_of self.new (channel_count self.old) ≡ Some bound) }
     {
         let end = NodeLink::fundee(alloc, keys, config, self.observed(alloc, store)?)?;
         let (listener, bound) = bind(&rt, address)?;
@@ -360,6 +412,8 @@ where
     where
         R: Net<Stream = W> + Threads + Wait + Copy + Send + 'static,
         R::Listener: Send + 'static,
+        ensures adds_one { OnOk result (channel_count self.new ≡ channel_count self.old + 1) }
+        ensures adds_none_if_refused { OnErr result (channel_count self.new ≡ channel_count self.old) }
     {
         let end = NodeLink::funder(alloc, keys, spec, self.observed(alloc, store)?)?;
         let Ok(stream) = TcpStream::connect(&rt, address) else {
@@ -377,6 +431,9 @@ where
     pub fn reconnect<R>(&self, rt: &R, channel: usize, address: SocketAddr) -> Result<(), Refusal>
     where
         R: Net<Stream = W> + Wait,
+        ensures refuses_where_there_is_none { channel_count self.now ≤ channel → result ≡ Err refusal.NotReady }
+        ensures refuses_one_that_listens { (address : SocketAddr) → address_of self.now channel ≡ Some address
+            → result ≡ Err refusal.NotReady }
     {
         let Some(channel) = self.channels.get(channel) else {
             return Err(Refusal::NotReady);
@@ -399,7 +456,9 @@ where
     }
 
     /// Where a channel listens; none where it makes its connections itself, or there is none of this number.
-    pub fn address(&self, channel: usize) -> Option<SocketAddr> {
+    pub fn address(&self, channel: usize) -> Option<SocketAddr>
+        ensures { result ≡ address_of self.now channel }
+    {
         self.channels.get(channel)?.bound()
     }
 
@@ -416,6 +475,7 @@ where
         R: Net<Stream = W> + Threads + Wait + Copy + Send + 'static,
         R::Listener: Send + 'static,
         ensures settings_stay { self.new.common ≡ self.old.common }
+        ensures adds_one { OnOk result (channel_count self.new ≡ channel_count self.old + 1) }
     {
         let (listener, bound) = bind_if::<R::Listener, R>(&rt, address)?;
         let shares = self.shares(&rt, alloc, &end)?;
@@ -436,6 +496,7 @@ where
         R: Net<Stream = W> + Threads + Wait + Copy + Send + 'static,
         R::Listener: Send + 'static,
         ensures settings_stay { self.new.common ≡ self.old.common }
+        ensures adds_all { OnOk result (channel_count self.new ≡ channel_count self.old + length loaded.items) }
     {
         for one in loaded {
             let Loaded {
@@ -467,6 +528,7 @@ where
         R::Listener: Send + 'static,
         ensures asks_by_the_policy { IfOk result (λ n. policy_of n ≡ policy) }
         ensures begins_with_all_channels { IfOk result (λ n. BeginsWithAll S.records stored.items (begun_of n)) }
+        ensures has_all_channels { IfOk result (λ n. channel_count n ≡ length stored.items) }
     {
         let monitor = Monitor::new(alloc)?;
         let loaded = load_all(alloc, &monitor, stored)?;
@@ -485,7 +547,10 @@ where
 
     /// Orders a channel's link to do this, as `ask` does, without a ticket. A notice tells where the link refuses it.
     /// Takes no memory.
-    pub fn order<R: Wait>(&self, rt: &R, channel: usize, command: Command) -> Result<(), Command> {
+    pub fn order<R: Wait>(&self, rt: &R, channel: usize, command: Command) -> Result<(), Command>
+        ensures hands_back { IfErr result (λ back. back ≡ command) }
+        ensures refuses_where_there_is_none { channel_count self.now ≤ channel → result ≡ Err command }
+    {
         match self.ask(rt, channel, command) {
             Ok(_) => Ok(()),
             Err(back) => Err(back),
@@ -506,7 +571,9 @@ where
         channel: usize,
         number: u64,
         verdict: Verdict,
-    ) -> Result<Mark, Refusal> {
+    ) -> Result<Mark, Refusal>
+        ensures refuses_where_there_is_none { channel_count self.now ≤ channel → result ≡ Err refusal.NotReady }
+    {
         let Some(id) = self.id(channel) else {
             return Err(Refusal::NotReady);
         };
@@ -531,32 +598,35 @@ where
     ///
     /// Error: 60 where there is none.
     pub fn held<R: Wait>(&self, rt: &R, alloc: Global) -> Result<Vec<(usize, HeldHtlc)>, Refusal> {
+        let ids = self.ids(alloc)?;
         let held = self.common.book.kept.lock(rt).held(alloc)?;
-        let mut all = Vec::new(alloc);
-        for htlc in held {
-            if let Some(channel) = self.number_of(&htlc.channel) {
-                all.push((channel, htlc))?;
-            }
-        }
-        Ok(all)
+        Ok(numbered(alloc, ids.as_slice(), held)?)
     }
 
-    // The number of a channel.
-    fn number_of(&self, id: &ChannelId) -> Option<usize> {
-        self.channels.iter().position(|channel| match channel.id() {
-            None => false,
-            Some(known) => known == id,
-        })
+    // Which channels they are, each once both have signed its opening, in their order.
+    fn ids(&self, alloc: Global) -> Result<Vec<Option<ChannelId>>, AllocError>
+        ensures are_of_all { IfOk result (λ ids. length ids.items ≡ channel_count self.now) }
+    {
+        let mut ids = Vec::new(alloc);
+        for channel in &self.channels {
+            ids.push(channel.id().copied())?;
+        }
+        Ok(ids)
     }
 
     // Which channel it is, once both have signed its opening.
-    fn id(&self, channel: usize) -> Option<ChannelId> {
+    fn id(&self, channel: usize) -> Option<ChannelId>
+        ensures knows_none_where_there_is_none { channel_count self.now ≤ channel → result ≡ None }
+    {
         self.channels.get(channel)?.id().copied()
     }
 
     /// Registers a hook, which is called on each of a channel's events from then on. A full relay, or a channel that
     /// there isn't, hands it back. Takes no memory.
-    pub fn register_hook<R: Wait>(&self, rt: &R, channel: usize, hook: H) -> Result<(), H> {
+    pub fn register_hook<R: Wait>(&self, rt: &R, channel: usize, hook: H) -> Result<(), H>
+        ensures hands_back { IfErr result (λ back. back ≡ hook) }
+        ensures refuses_where_there_is_none { channel_count self.now ≤ channel → result ≡ Err hook }
+    {
         match self.channels.get(channel) {
             None => Err(hook),
             Some(channel) => channel.register_hook(rt, hook),
@@ -570,7 +640,9 @@ where
         rt: &R,
         channel: usize,
         script: Bytes,
-    ) -> Result<(), Command> {
+    ) -> Result<(), Command>
+        ensures hands_back { IfErr result (λ back. back ≡ command.Shutdown script) }
+    {
         self.order(rt, channel, Command::Shutdown(script))
     }
 
@@ -602,15 +674,10 @@ where
     pub fn into_stores<R>(self, rt: R, alloc: Global) -> Result<Vec<S>, Refusal>
     where
         R: Net<Stream = W> + Threads + Wait + Copy + Send + 'static,
+        ensures gives_all { IfOk result (λ stores. length stores.items ≡ channel_count self) }
+        ensures fails_for_memory_alone { IfErr result (λ e. e ≡ refusal.Memory) }
     {
         self.halt(&rt);
-        let mut stores = Vec::new(alloc);
-        let mut are_kept = true;
-        for channel in self.into_channels() {
-            if !keep(&mut stores, channel.end(&rt)) {
-                are_kept = false;
-            }
-        }
-        all_kept(stores, are_kept)
+        end_all(&rt, alloc, self.into_channels())
     }
 }

@@ -27,8 +27,15 @@ where
     T: Table<H> + Drop + Send + 'static,
     W: Read + Write + OpenStream + Drop + Send + 'static,
 {
+    ghost use Rattle.std.specs.Prelude.{◌≡◌, ◌≤◌, ◌<◌, Ok, Err};
+    ghost use Rattle.ln_refusals.specs.declared.refusal.Refusal.TheVariants as refusal;
+    ghost use Rattle.ln_node.specs.Node.{channel_count, signing_of};
+
     /// Each channel signs so from now on, those that it will have too.
-    pub fn set_signing(&mut self, signing: Signing) {
+    pub fn set_signing(&mut self, signing: Signing)
+        ensures new_channels_sign_so { signing_of self.new ≡ signing }
+        ensures channels_stay { channel_count self.new ≡ channel_count self.old }
+    {
         self.signing = signing;
         for channel in &self.channels {
             channel.set_signing(signing);
@@ -38,7 +45,10 @@ where
     /// A channel signs so from now on, whatever the others do. Takes no memory.
     ///
     /// Error: 40 where there is no such channel.
-    pub fn set_signing_of(&self, channel: usize, signing: Signing) -> Result<(), Refusal> {
+    pub fn set_signing_of(&self, channel: usize, signing: Signing) -> Result<(), Refusal>
+        ensures is_done_where_there_is_one { channel < channel_count self.now → result ≡ Ok tt }
+        ensures refuses_where_there_is_none { channel_count self.now ≤ channel → result ≡ Err refusal.NotReady }
+    {
         match self.channels.get(channel) {
             None => Err(Refusal::NotReady),
             Some(channel) => {

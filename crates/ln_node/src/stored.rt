@@ -1,6 +1,6 @@
 //! Channels that come back from their records.
 
-ghost use Rattle.std.specs.Prelude.{◌≡◌, IfOk};
+ghost use Rattle.std.specs.Prelude.{◌≡◌, IfOk, length};
 ghost use Rattle.ln_history.specs.History.{begun_with};
 ghost use Rattle.ln_book_tables.specs.Replay.{no_table};
 ghost use Rattle.ln_book.specs.Rebuild.{rebuilt};
@@ -130,6 +130,7 @@ pub(crate) fn load_all<K: ChannelKeys + Copy, S: RecordStore + Drop, T: Drop>(
     stored: Vec<Stored<K, S, T>>,
 ) -> Result<Vec<Loaded<K, S, T>>, Refusal>
     ensures come_back { IfOk result (λ v. AreLoaded S.records stored.items v.items) }
+    ensures are_as_many { IfOk result (λ v. length v.items ≡ length stored.items) }
 {
     let mut loaded = Vec::new(alloc);
     for one in stored {

@@ -21,10 +21,11 @@ where
     T: Table<H> + Drop + Send + 'static,
     W: Read + Write + OpenStream + Drop + Send + 'static,
 {
-    ghost use Rattle.std.specs.Prelude.{◌≡◌, ◌⊎◌, IfOk, IfErr};
+    ghost use Rattle.std.specs.Prelude.{◌≡◌, ◌≤◌, ◌<◌, length, Err, IfOk, IfErr};
     ghost use Rattle.std.specs.List.{All};
     ghost use Rattle.ln_refusals.specs.declared.refusal.Refusal.TheVariants as refusal;
     ghost use Rattle.ln_watch.specs.Summary.{IsSummary};
+    ghost use Rattle.ln_node.specs.Node.{channel_count};
 
     /// What is told of a channel: a copy of the summary that its worker made after its last turn. It is that of its
     /// link at one moment, also of one that is being opened, fails or has halted; it doesn't wait for a turn. An order
@@ -34,7 +35,8 @@ where
     /// that turn.
     pub fn summary<R: Wait>(&self, rt: &R, channel: usize) -> Result<ChannelSummary, Refusal>
         ensures is_that_of_a_link { IfOk result IsSummary }
-        ensures fails_by_one_of_two { IfErr result (λ e. (e ≡ refusal.NotReady) ⊎ (e ≡ refusal.Memory)) }
+        ensures refuses_where_there_is_none { channel_count self.now ≤ channel → result ≡ Err refusal.NotReady }
+        ensures fails_for_memory_alone { channel < channel_count self.now → IfErr result (λ e. e ≡ refusal.Memory) }
     {
         match self.channels.get(channel) {
             None => Err(Refusal::NotReady),
@@ -47,6 +49,7 @@ where
     /// Error: 60 where there is none, or there was none for one of them.
     pub fn channels<R: Wait>(&self, rt: &R, alloc: Global) -> Result<Vec<ChannelSummary>, Refusal>
         ensures are_those_of_links { IfOk result (λ all. All IsSummary all.items) }
+        ensures are_of_all { IfOk result (λ all. length all.items ≡ channel_count self.now) }
         ensures fails_for_memory_alone { IfErr result (λ e. e ≡ refusal.Memory) }
     {
         let mut all = Vec::new(alloc);

@@ -4,13 +4,14 @@ use Rattle.std.proofs.Common.{IfErr, OnOk, refl, sym, ap, ◌∙◌, inl, inr, t
 use Rattle.std.proofs.KnownBytes.{Appends-nil}
 use Rattle.ln_msgs.specs.declared.messages.message.Message.{Message}
 use Rattle.ln_refusals.specs.declared.refusal.Refusal.{Refusal}
+use Rattle.ln_refusals.specs.declared.refusal.Refusal.TheVariants as refusal
 use Rattle.ln_msgs.specs.Messages.Message.{Wire}
 use Rattle.ln_channel.specs.declared.command.Command.{Command}
 use Rattle.ln_channel.specs.declared.output.Output.{Output}
-use Rattle.ln_channel.specs.Step.{is_of_records}
 use Rattle.ln_node_loops.specs.declared.item.Item.{Item}
 use Rattle.ln_node_loops.specs.declared.item.Item.TheVariants as item
 use Rattle.ln_node_loops.specs.declared.kind.Kind.TheVariants.{OfConnection, Ping, OfFailure, OfChannel}
+use Rattle.ln_node_loops.specs.Reserved.{is_reserved}
 use Rattle.ln_node_loops.specs.Act.{Act, Handles, Connects}
 use Rattle.ln_node_loops.specs.Kind.{kind_of}
 use Rattle.ln_msgs.specs.Messages.Typed.{wire}
@@ -129,15 +130,19 @@ module _ {S : Type 0} (acts : S → Act → Result (List Output) Refusal → S �
 
   -- an order that is passed over
   pub declines : (s : S) (c : Command) (outputs : List Output) (answer : Result (Unit {0}) Refusal)
-      (connection : Option Connection) → is_of_records c ≡ true → (outputs ≡ []) × (answer ≡ Ok tt)
+      (connection : Option Connection) → is_reserved c ≡ true
+      → (outputs ≡ []) × (answer ≡ Err refusal.NotReady)
       → IsTurn acts s (item.Order c) outputs answer s connection connection
-  declines s c outputs answer connection of nothing =
-      idles s (item.Order c) outputs answer s connection nothing
-      (subst (λ b. ObeysOrder acts b s c (Ok []) s) (sym of) (refl, refl)) refl
+  declines s c outputs answer connection of nothing = record {
+    said = Err refusal.NotReady;
+    serves = subst (λ b. ObeysOrder acts b s c (Err refusal.NotReady) s) (sym of) (refl, refl);
+    hands_out = nothing.0;
+    writes = inl (nothing.1, wrote-none connection);
+  }
 
   -- and one that is obeyed
   pub obeys : (s : S) (c : Command) (outputs : List Output) (said written answer : Result (Unit {0}) Refusal) (s' : S)
-      (connection connection' : Option Connection) → is_of_records c ≡ false
+      (connection connection' : Option Connection) → is_reserved c ≡ false
       → IsObeyed acts s c outputs said written s' connection connection'
       → IfErr written (λ e. answer ≡ Err e) → OnOk written (answer ≡ said)
       → IsTurn acts s (item.Order c) outputs answer s' connection connection'

@@ -11,4 +11,6 @@ pub mod Settling
 pub mod Owing
 pub mod Losing
 pub mod Replying
+pub mod Removing
+pub mod Stopping
 pub mod Unsigned

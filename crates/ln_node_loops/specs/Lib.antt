@@ -13,5 +13,6 @@ pub mod Worker
 pub mod WorkerLoop
 pub mod Saved
 pub mod Owed
+pub mod Reserved
 pub mod Orders
 pub mod Signing

@@ -4,9 +4,9 @@ use Rattle.ln_refusals.specs.declared.refusal.Refusal.{Refusal}
 use Rattle.ln_refusals.specs.declared.refusal.Refusal.TheVariants as refusal
 use Rattle.ln_channel.specs.declared.command.Command.{Command}
 use Rattle.ln_channel.specs.declared.output.Output.{Output}
-use Rattle.ln_channel.specs.Step.{is_of_records}
 use Rattle.ln_book.specs.Answers.{command_subject}
 use Rattle.ln_book.specs.Seen.{Seen, next_htlc}
+use Rattle.ln_node_loops.specs.Reserved.{is_reserved}
 use Rattle.ln_node_loops.specs.Act.{Act, Obeys}
 use Rattle.ln_node_loops.specs.Sent.{answer_of}
 use Rattle.ln_node_loops.specs.declared.item.Item.{Item}
@@ -43,11 +43,11 @@ orders_in (item.Order c ∷ is) = c ∷ orders_in is
 orders_in (item.Stop ∷ is) = orders_in is
 
 module _ {S : Type 0} (acts : S → Act → Result (List Output) Refusal → S → Type 0) (seen : S → Option Seen) where
-  -- the reply to an order: 40 where the book alone decides such, else by what an end has answered to it
+  -- the reply to an order: 40 where it is reserved for the book, else by what an end has answered to it
   abbrev pub IsReplyTo : Command → Reply → Type 0
   IsReplyTo c r =
-      ((is_of_records c ≡ true) × (r ≡ Err refusal.NotReady))
-      ⊎ ((before : S) × (said : Result (List Output) Refusal) × (after : S) × (is_of_records c ≡ false)
+      ((is_reserved c ≡ true) × (r ≡ Err refusal.NotReady))
+      ⊎ ((before : S) × (said : Result (List Output) Refusal) × (after : S) × (is_reserved c ≡ false)
       × acts before (Obeys c) said after
       × (r ≡ reply_of (command_subject (next_htlc (seen before)) c) (answer_of said)))
 

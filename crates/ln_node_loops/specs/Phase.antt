@@ -7,7 +7,7 @@ use Rattle.ln_msgs.specs.declared.messages.setup.Init.{Init}
 use Rattle.ln_msgs.specs.Messages.Features.{IsAllKnown, HasUnknown}
 use Rattle.ln_refusals.specs.declared.refusal.Refusal.{Refusal}
 use Rattle.ln_refusals.specs.Refusal.{refusal_number}
-use Rattle.ln_channel.specs.Step.{is_of_records}
+use Rattle.ln_node_loops.specs.Reserved.{is_reserved}
 use Rattle.ln_node_loops.specs.Connection.{Connection}
 use Rattle.ln_node_loops.specs.declared.item.Item.{Item}
 use Rattle.ln_node_loops.specs.declared.item.Item.TheVariants as item
@@ -46,12 +46,12 @@ Hears known Unconnected m p = p ≡ Unconnected
 Hears known AwaitsInit m p = Greets known (init_in m) p
 Hears known Open m p = p ≡ Open
 
--- what the book alone decides isn't ordered
+-- what is reserved for the book isn't ordered
 abbrev pub PassesOver : {J : Type 0} → List ℕ → Phase → Item J → Phase → Type 0
 PassesOver known p (item.Joined j) p' = p' ≡ p
 PassesOver known p (item.Read m) p' = Hears known p m p'
 PassesOver known p item.Broken p' = p' ≡ p
-PassesOver known p (item.Order c) p' = (is_of_records c ≡ true) × (p' ≡ p)
+PassesOver known p (item.Order c) p' = (is_reserved c ≡ true) × (p' ≡ p)
 PassesOver known p item.Stop p' = p' ≡ p
 
 -- ---- how far it is behind one that is served

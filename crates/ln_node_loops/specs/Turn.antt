@@ -8,7 +8,7 @@ use Rattle.ln_msgs.specs.Messages.Message.{Wire, wire_bytes}
 use Rattle.ln_msgs.specs.Messages.Typed.{wire}
 use Rattle.ln_channel.specs.declared.command.Command.{Command}
 use Rattle.ln_channel.specs.declared.output.Output.{Output}
-use Rattle.ln_channel.specs.Step.{is_of_records}
+use Rattle.ln_node_loops.specs.Reserved.{is_reserved}
 use Rattle.ln_node_loops.specs.declared.item.Item.{Item}
 use Rattle.ln_node_loops.specs.declared.item.Item.TheVariants as item
 use Rattle.ln_node_loops.specs.declared.kind.Kind.{Kind}
@@ -66,16 +66,16 @@ module _ {S : Type 0} (acts : S → Act → Result (List Output) Refusal → S �
   HearsOf OfFailure s m said s' = acts s (Handles m) said s'
   HearsOf (OfChannel id) s m said s' = acts s (Handles m) said s'
 
-  -- what the book alone decides isn't ordered
+  -- what is reserved for the book isn't ordered (40)
   abbrev pub ObeysOrder : Bool → S → Command → Result (List Output) Refusal → S → Type 0
-  ObeysOrder true s c said s' = Rests s said s'
+  ObeysOrder true s c said s' = (said ≡ Err refusal.NotReady) × (s' ≡ s)
   ObeysOrder false s c said s' = acts s (Obeys c) said s'
 
   abbrev pub Serves : {J : Type 0} → S → Item J → Result (List Output) Refusal → S → Type 0
   Serves s (item.Joined j) said s' = acts s Connects said s'
   Serves s (item.Read m) said s' = HearsOf (kind_of m) s m said s'
   Serves s item.Broken said s' = (said ≡ Ok []) × acts s Drops said s'
-  Serves s (item.Order c) said s' = ObeysOrder (is_of_records c) s c said s'
+  Serves s (item.Order c) said s' = ObeysOrder (is_reserved c) s c said s'
   Serves s item.Stop said s' = Rests s said s'
 
 -- ---- what is sent

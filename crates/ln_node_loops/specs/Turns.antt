@@ -9,10 +9,11 @@ use Rattle.ln_channel.specs.declared.command.Command.{Command}
 use Rattle.ln_channel.specs.declared.command.Command.TheVariants as command
 use Rattle.ln_channel.specs.declared.output.Output.{Output}
 use Rattle.ln_channel.specs.declared.output.Output.TheVariants as output
-use Rattle.ln_channel.specs.Step.{is_of_records}
 use Rattle.ln_book.specs.declared.switch.saying.Saying.{Saying}
+use Rattle.ln_book.specs.Alone.{is_books}
 use Rattle.ln_book.specs.Answers.{command_subject}
 use Rattle.ln_book.specs.Seen.{Seen, channel_of, next_htlc}
+use Rattle.ln_node_loops.specs.Reserved.{is_reserved}
 use Rattle.ln_node_loops.specs.Owed.{owed, asked}
 use Rattle.ln_node_loops.specs.Orders.{Reply, subject_in, reply_of, replies_to}
 use Rattle.ln_node_loops.specs.declared.item.Item.{Item}
@@ -36,10 +37,10 @@ pub data Giver : Type 0 where
   OfWorker : Giver
 
 module _ {S : Type 0} (owes : S → Bool) where
-  -- what the book alone decides isn't ordered; by itself a worker only signs, where its end owes a signature
+  -- what is reserved for the book isn't ordered; by itself a worker only signs, where its end owes a signature
   abbrev pub MayGive : S → Giver → Command → Type 0
   MayGive s OfBook c = ⊤
-  MayGive s OfUser c = is_of_records c ≡ false
+  MayGive s OfUser c = is_reserved c ≡ false
   MayGive s OfWorker c = (c ≡ command.Sign) × (owes s ≡ true)
 
 -- one turn of a worker, whose relay has items with writers W
@@ -174,7 +175,7 @@ replies_in [] = []
 replies_in ((c, es, rs) ∷ ns) = rs ++ replies_in ns
 
 module _ {S W : Type 0} (seen : S → Option Seen) where
-  -- what is replied for a turn, by the end before it: one that the book alone decides is no order (40)
+  -- what is replied for a turn, by the end before it: one that is reserved for the book is no order (40)
   abbrev pub replies : S → Turn W → List Reply
   replies s (Serves i os a) = []
   replies s (Passes i) = replies_to (subject_in 0 i) (Err refusal.NotReady)
@@ -288,6 +289,18 @@ FindsNone empty taken [] = ⊤
 FindsNone empty taken (t ∷ ts) =
     (is_idle t ≡ true → empty taken) × FindsNone empty (taken ++ items_of (t ∷ [])) ts
 
+-- ---- who removes and forwards
+
+-- the book alone: no command of a user, and none that a worker gives by itself, does so
+abbrev pub RemoveByBookAlone : {W : Type 0} → List (Turn W) → Type 0
+RemoveByBookAlone [] = ⊤
+RemoveByBookAlone (Serves i os a ∷ ts) = RemoveByBookAlone ts
+RemoveByBookAlone (Passes i ∷ ts) = RemoveByBookAlone ts
+RemoveByBookAlone (Obeys by c os a w ∷ ts) = (is_books c ≡ true → by ≡ OfBook) × RemoveByBookAlone ts
+RemoveByBookAlone (Loads es ∷ ts) = RemoveByBookAlone ts
+RemoveByBookAlone (StaysHalted r ∷ ts) = RemoveByBookAlone ts
+RemoveByBookAlone (Rests allowed ∷ ts) = RemoveByBookAlone ts
+
 -- ---- connections
 
 -- there is none, and so nothing is written
@@ -360,9 +373,26 @@ pub record LoopState (S W H : Type 0) : Type 0 where
   pub replied : List Reply
   pub allowed : List Bool
 
--- the last item that was taken is Stop
-abbrev pub HasStopped : {W : Type 0} → List (Item W) → Type 0
-HasStopped {W} taken = (before : List (Item W)) × (taken ≡ before ++ item.Stop ∷ [])
+abbrev pub is_stop : {W : Type 0} → Item W → Bool
+is_stop (item.Joined w) = false
+is_stop (item.Read m) = false
+is_stop item.Broken = false
+is_stop (item.Order c) = false
+is_stop item.Stop = true
+
+-- none of them is Stop
+abbrev pub NoneStops : {W : Type 0} → List (Item W) → Type 0
+NoneStops [] = ⊤
+NoneStops (i ∷ is) = (is_stop i ≡ false) × NoneStops is
+
+-- what was taken since then has no Stop
+abbrev pub TakesNoStop : {W : Type 0} → List (Item W) → List (Item W) → Type 0
+TakesNoStop {W} taken taken' = (items : List (Item W)) × NoneStops items × (taken' ≡ taken ++ items)
+
+-- what was taken since then ends with its first Stop
+abbrev pub StopsAtOnce : {W : Type 0} → List (Item W) → List (Item W) → Type 0
+StopsAtOnce {W} taken taken' =
+    (before : List (Item W)) × TakesNoStop taken before × (taken' ≡ before ++ item.Stop ∷ [])
 
 module _ {S W H : Type 0} (acts : S → Act → Result (List Output) Refusal → S → Type 0) (halted : S → Bool)
     (pending : S → List (ℕ × ChannelEvent)) (owes : S → Bool) (seen : S → Option Seen) (contents : W → Option (List ℕ))
@@ -415,4 +445,4 @@ module _ {S W H : Type 0} (acts : S → Act → Result (List Output) Refusal →
     pub last_pending : mid.last ≡ last_of a.last (pending a.stand.end)
     pub told_pending : mid.said ≡ a.said ++ owed (seen a.stand.end) false (pending a.stand.end)
     pub ran : Ran false mid b
-    pub stopped : HasStopped b.taken
+    pub stopped : StopsAtOnce a.taken b.taken

@@ -13,7 +13,7 @@ ghost use Rattle.ln_node_loops.specs.declared.task.Task.{Task};
 ghost use Rattle.ln_node_loops.specs.Served.{events_in, Begins};
 ghost use Rattle.ln_book.specs.declared.switch.saying.Saying.{Saying};
 ghost use Rattle.ln_node_loops.specs.Turns.{LoopState, Began, told, AreEvents, Stand, Turn, Leads, News};
-ghost use Rattle.ln_node_loops.specs.Turns.{cuts_off, JoinNone, IsCutOff, items_of as items_in};
+ghost use Rattle.ln_node_loops.specs.Turns.{cuts_off, JoinNone, IsCutOff, RemoveByBookAlone, items_of as items_in};
 ghost use Rattle.ln_node_loops.specs.Course.{segment, next_of, Tells};
 ghost use Rattle.ln_node_loops.specs.Orders.{Reply, AreRepliesTo, orders_in};
 ghost use Rattle.ln_node_loops.specs.Signing.{owes_signature, is_done};
@@ -48,8 +48,8 @@ pub fn every_event_is_put<E: End + Drop, W: Closes + Drop, I: Receives<Item<W>> 
         × AreEvents new (segment event (end - next_of first a.last) (next_of first a.last)) }
 {}
 
-/// Each order that was taken was replied to, once, in the order in which they were taken: by 40 where the book alone
-/// decides such, else by what the end has answered to it.
+/// Each order that was taken was replied to, once, in the order in which they were taken: by 40 where it is reserved
+/// for the book, else by what the end has answered to it.
 pub fn every_order_is_replied_to<
     E: End + Drop,
     W: Closes + Drop,
@@ -60,6 +60,19 @@ pub fn every_order_is_replied_to<
         (began : Began E.acts E.halted E.pending E.owes E.seen W.contents own_init known (WasEmpty place) a b)
         → (new : List Reply) × (b.replied ≡ a.replied ++ new)
         × AreRepliesTo E.acts E.seen (orders_in (items_in began.ran.turns)) new }
+{}
+
+/// What removes an HTLC, and what forwards one, the end was told by the book alone: no order that it obeyed is such,
+/// and nothing that the worker gave it by itself.
+pub fn the_book_alone_removes_and_forwards<
+    E: End + Drop,
+    W: Closes + Drop,
+    I: Receives<Item<W>> + Drop,
+    H: Drop,
+>()
+    ensures { (own_init : Message) (known : List ℕ) (place : Position I.Relay) (a b : LoopState E.State W H)
+        (began : Began E.acts E.halted E.pending E.owes E.seen W.contents own_init known (WasEmpty place) a b)
+        → RemoveByBookAlone began.ran.turns }
 {}
 
 /// A link owes a signature exactly where `Sign` is done, if there is memory and its store doesn't fail.

@@ -28,6 +28,7 @@ pub use kind::Kind;
 pub use laws::{
     a_load_keeps_pending_events, a_signature_is_owed_where_sign_is_done, every_event_is_put,
     every_order_is_replied_to, hooks_follow, nothing_is_written_after_a_loss,
+    the_book_alone_removes_and_forwards,
 };
 pub use ln_hooks::Table;
 pub use notice::Notice;

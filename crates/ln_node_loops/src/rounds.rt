@@ -2,8 +2,8 @@
 
 ghost use Rattle.std.specs.Prelude.{◌≡◌, ◌++◌, ◌∷◌, [], true, false, not, ◌&&◌, ◌||◌};
 ghost use Rattle.ln_relay.specs.Position.{WasEmpty};
-ghost use Rattle.ln_node_loops.specs.Turns.{Ran, ReloadsIfHalted, Began, HasStopped, is_new, fresh, last_of, events};
-ghost use Rattle.ln_node_loops.specs.Turns.{tasks, drops};
+ghost use Rattle.ln_node_loops.specs.Turns.{Ran, ReloadsIfHalted, Began, TakesNoStop, is_new, fresh, last_of, events};
+ghost use Rattle.ln_node_loops.specs.Turns.{tasks, drops, is_stop};
 ghost use Rattle.ln_book.specs.Seen.{channel_of};
 ghost use Rattle.ln_node_loops.specs.Owed.{kept_if, settled_at, owed, load_words};
 ghost use Rattle.ln_node_loops.specs.declared.item.Item.TheVariants as item;
@@ -122,7 +122,7 @@ fn put_events<E: End, H: Drop, T: Sends<Task<H>>, R: Wait>(
 }
 
 fn is_stop<J: Drop>(taken: &Item<J>) -> bool
-    ensures { result ≡ true → taken.now ≡ item.Stop }
+    ensures { result ≡ is_stop taken.now }
 {
     matches!(taken, Item::Stop)
 }
@@ -388,7 +388,8 @@ where
             (WasEmpty (I.position self.old.items)) true
             (loop_state E.state W.contents I.taken T.put B.said A.replied A.allowed self.old)
             (loop_state E.state W.contents I.taken T.put B.said A.replied A.allowed self.new) }
-        ensures stops { result ≡ true → HasStopped (I.taken self.new.items) }
+        ensures stops { result ≡ true → I.taken self.new.items ≡ I.taken self.old.items ++ item.Stop ∷ [] }
+        ensures goes_on { result ≡ false → TakesNoStop (I.taken self.old.items) (I.taken self.new.items) }
         ensures position_stays { I.position self.new.items ≡ I.position self.old.items }
         ensures was_empty { busy.new ≡ false → WasEmpty (I.position self.old.items) (I.taken self.new.items) }
     {
@@ -585,16 +586,16 @@ where
     }
 }
 
-/// Serves the items of a worker's relay and the commands of the book in turn, until `Stop`, and gives all of it back:
-/// an end that has halted is loaded from its record before each item that is taken. The events that are pending at the
-/// start or after a load, and those that the end hands out, are put for the dispatcher as those of the end's channel,
-/// each number once and in rising order; before that the book is told what has become of HTLCs by them, and what the
-/// end has kept after a lost connection or a load. A command of the book is answered by what the end has answered, and
-/// each order is replied to, in their order. Where its relay was empty and it obeyed nothing it asks whether it is to
-/// sign by itself; if so it signs what is owed, so that what came together shares a signature. By itself it signs in no
-/// other case. Where it had nothing to do it waits for the wake-up, and between loads that are refused the longer, the
-/// more they are. The peer is greeted by `own_init`, an init, and its init may ask for no even feature but the known
-/// ones. It tries again where there is no memory or the dispatcher's relay is full.
+/// Serves the items of a worker's relay and the commands of the book in turn, up to the first `Stop`, and gives all of
+/// it back: an end that has halted is loaded from its record before each item that is taken. The events that are
+/// pending at the start or after a load, and those that the end hands out, are put for the dispatcher as those of the
+/// end's channel, each number once and in rising order; before that the book is told what has become of HTLCs by them,
+/// and what the end has kept after a lost connection or a load. A command of the book is answered by what the end has
+/// answered, and each order is replied to, in their order. Where its relay was empty and it obeyed nothing it asks
+/// whether it is to sign by itself; if so it signs what is owed, so that what came together shares a signature. By
+/// itself it signs in no other case. Where it had nothing to do it waits for the wake-up, and between loads that are
+/// refused the longer, the more they are. The peer is greeted by `own_init`, an init, and its init may ask for no even
+/// feature but the known ones. It tries again where there is no memory or the dispatcher's relay is full.
 pub fn worker_loop<E, W, I, H, T, B, A, R>(
     rt: &R,
     alloc: Global,

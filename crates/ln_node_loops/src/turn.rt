@@ -5,7 +5,7 @@ ghost use Rattle.std.specs.Prelude.{option_copied, List, option_map, Some, Err, 
 ghost use Rattle.ln_msgs.specs.Messages.Message.{Wire, wire_bytes};
 ghost use Rattle.ln_msgs.specs.Messages.Typed.{wire};
 ghost use Rattle.ln_msgs.specs.Messages.Reply.{reply_to};
-ghost use Rattle.ln_channel.specs.Step.{is_of_records};
+ghost use Rattle.ln_node_loops.specs.Reserved.{is_reserved};
 ghost use Rattle.ln_node_loops.specs.declared.item.Item.TheVariants as item;
 ghost use Rattle.ln_node_loops.specs.declared.kind.Kind.TheVariants as kind;
 ghost use Rattle.ln_node_loops.specs.Kind.{kind_of};
@@ -355,17 +355,26 @@ fn read_turn<E: End, L: Carries>(
     }
 }
 
-/// Whether it is about what a record keeps of decisions, which the book alone commands.
-pub(crate) fn is_of_records(command: &Command) -> bool
-    ensures { result ≡ is_of_records command.now }
+/// Whether it is reserved for the book: what a record keeps of decisions, what removes an HTLC, and what forwards one.
+pub(crate) fn is_reserved(command: &Command) -> bool
+    ensures { result ≡ is_reserved command.now }
 {
-    matches!(
-        command,
-        Command::Decide { .. } | Command::Forget(_) | Command::Resume { .. }
-    )
+    match command {
+        Command::Decide { .. } | Command::Forget(_) | Command::Resume { .. } => true,
+        Command::Fulfil { .. } | Command::Fail { .. } | Command::Malformed { .. } => true,
+        Command::Add { origin, .. } => origin.is_some(),
+        _ => false,
+    }
 }
 
-// What the book alone decides is passed over.
+// Nothing is done, and nothing is written (40).
+fn decline(alloc: Global) -> (Vec<Output>, Result<(), Refusal>)
+    ensures { (result.0.items ≡ []) × (result.1 ≡ Err Refusal.NotReady) }
+{
+    (Vec::new(alloc), Err(Refusal::NotReady))
+}
+
+// What is reserved for the book is refused (40).
 fn order_turn<E: End, L: Carries>(
     alloc: Global,
     end: &mut E,
@@ -375,9 +384,9 @@ fn order_turn<E: End, L: Carries>(
     ensures { IsTurn E.acts (E.state end.old) (item.Order command)
         result.0.items result.1 (E.state end.new) (L.connection connection.old) (L.connection connection.new) }
 {
-    if is_of_records(&command) {
+    if is_reserved(&command) {
         drop(command);
-        return idle_turn(alloc);
+        return decline(alloc);
     }
     let obeyed = obey_turn(alloc, end, command, connection);
     (obeyed.outputs, over(obeyed.answer, obeyed.written))
@@ -410,7 +419,8 @@ pub(crate) fn take_turn<E: End, L: Carries>(
 /// its refusal told to the peer, unless the message is an error or a warning; init and pong ask for nothing. The
 /// outputs are all that the end handed out, also where a write failed. Takes memory for the bytes that are written.
 ///
-/// Errors: what the end refuses it by, and then all was written; or why not all was. 60 where there is no memory for
+/// Errors: what the end refuses it by, and then all was written; 40 for an order that is reserved for the book, which
+/// changes nothing; or why not all was. 60 where there is no memory for
 /// all of the bytes, 7 where a message has more than 65,535 or has records that may not follow its fields: then nothing
 /// was written. 63 where a call of the writer failed: then a prefix was.
 pub fn worker_turn<E: End, W: Write>(

@@ -6,14 +6,13 @@ ghost use Rattle.ln_node_loops.specs.Turn.{IsTurn};
 ghost use Rattle.ln_node_loops.specs.declared.item.Item.TheVariants as item;
 ghost use Rattle.ln_node_loops.specs.declared.worker.Phase.TheVariants as phase;
 ghost use Rattle.ln_node_loops.specs.Phase.{is_lost, is_refused, init_in, Greets};
-ghost use Rattle.ln_channel.specs.Step.{is_of_records};
 ghost use Rattle.ln_node_loops.specs.declared.wire.Wire.TheVariants as wire;
 ghost use Rattle.ln_refusals.specs.declared.refusal.Refusal.TheVariants as refusal;
 ghost use Rattle.ln_node_loops.specs.Wire.{connection_at};
 
 use crate::end::End;
 use crate::item::Item;
-use crate::turn::{Obeyed, is_of_records, obey_turn, take_turn};
+use crate::turn::{Obeyed, is_reserved, obey_turn, take_turn};
 use crate::wire::{Closes, Wire};
 use ln_channel::{Command, Output};
 use ln_hooks::ChannelEvent;
@@ -266,7 +265,7 @@ impl<E: End + Drop, W: Closes + Drop> Worker<E, W> {
         served(outputs, answer)
     }
 
-    // An order. What the book alone decides is passed over (40).
+    // An order. What is reserved for the book is passed over (40).
     fn order(&mut self, alloc: Global, command: Command) -> Turned
         ensures turn { (own_init : Message) (known : List ℕ)
             → Step E.acts E.halted E.pending E.owes W.contents own_init known (stand E.state W.contents self.old)
@@ -276,7 +275,7 @@ impl<E: End + Drop, W: Closes + Drop> Worker<E, W> {
         ensures declined { result.served ≡ false → result.answer ≡ Err refusal.NotReady }
         ensures last { self.new.last ≡ self.old.last }
     {
-        if is_of_records(&command) {
+        if is_reserved(&command) {
             drop(command);
             self.drop_writer_if_closed();
             return passed(alloc, Err(Refusal::NotReady));
@@ -295,7 +294,7 @@ impl<E: End + Drop, W: Closes + Drop> Worker<E, W> {
     }
 
     /// Serves an item of its relay, or passes it over: messages are passed over until the peer's init came, which may
-    /// ask for no even feature but the known ones, and orders are where the book alone decides such (40). The writer is
+    /// ask for no even feature but the known ones, and orders that are reserved for the book (40). The writer is
     /// closed where the connection is lost, where a turn couldn't write all, where the end takes no connection or has
     /// halted, and where the peer's first message isn't such an init.
     pub fn serve(
@@ -325,7 +324,7 @@ impl<E: End + Drop, W: Closes + Drop> Worker<E, W> {
         }
     }
 
-    /// A command: of the book, of an order that isn't of what the book alone decides, or to sign what is owed.
+    /// A command: of the book, of an order that isn't reserved for it, or to sign what is owed.
     pub fn obey(&mut self, alloc: Global, command: Command) -> Obeyed
         ensures turn { (by : Giver) (own_init : Message) (known : List ℕ)
             → MayGive E.owes (E.state self.old.end) by command

@@ -1,7 +1,7 @@
 use Rattle.std.proofs.Common.{◌++◌, ◌∙◌, length, sym, ap, subst, arith}
 use Rattle.std.specs.Vec.Iter.{into_iter_items}
 use Rattle.ln_node.specs.Stored.{AreLoaded}
-use Rattle.ln_node.proofs.Loading.{none, one-more, no-more}
+use Rattle.ln_node.proofs.Loading.{none, one-more, no-more, as-many}
 use Rattle.ln_node.proofs.stored.load_all.Goals as goal
 
 pub loop-one-preserved : goal.loop-one-preserved
@@ -17,11 +17,11 @@ loop-one-preserved g c =
     )
 
 pub returns : goal.returns
-returns g c = record {
-  come_back = subst (λ x. AreLoaded g.S.RecordStore.records x c.loop-one.loaded.items)
-      c.into_iter-one-iterator.ensures.into_iter_gives.0
-      (no-more g.S.RecordStore.records _ _
-      (λ rest are. c.loop-one.invariant.0 rest
-      (subst (λ x. AreLoaded g.S.RecordStore.records x rest)
-      (sym (none _ (sym c.loop-one.invariant.1 ∙ c.in-None.ensures.steps.0))) are)));
-}
+returns g c =
+    let all = subst (λ x. AreLoaded g.S.RecordStore.records x c.loop-one.loaded.items)
+    c.into_iter-one-iterator.ensures.into_iter_gives.0
+    (no-more g.S.RecordStore.records _ _
+    (λ rest are. c.loop-one.invariant.0 rest
+    (subst (λ x. AreLoaded g.S.RecordStore.records x rest)
+    (sym (none _ (sym c.loop-one.invariant.1 ∙ c.in-None.ensures.steps.0))) are))) in
+    record { come_back = all; are_as_many = as-many g.S.RecordStore.records _ _ all }

@@ -1,13 +1,15 @@
-use Rattle.std.proofs.Common.{◌∙◌, refl, ap, ◌++◌, false}
+use Rattle.std.proofs.Common.{◌∙◌, refl, ap, ◌++◌, ◌∷◌, [], false, subst}
 use Rattle.ln_relay.specs.Position.{WasEmpty}
 use Rattle.ln_book.specs.Seen.{channel_of}
-use Rattle.ln_node_loops.specs.Turns.{fresh, last_of, tasks}
+use Rattle.ln_node_loops.specs.declared.item.Item.TheVariants as item
+use Rattle.ln_node_loops.specs.Turns.{fresh, last_of, tasks, TakesNoStop}
 use Rattle.ln_node_loops.specs.Owed.{owed}
 use Rattle.ln_node_loops.proofs.Running.{ran-none, ran-on, ran-mended, ran-there}
+use Rattle.ln_node_loops.proofs.Stopping.{stops-not, goes-on}
 use Rattle.ln_node_loops.proofs.rounds.worker_loop.Goals as goal
 
 pub loop-init : goal.loop-init
-loop-init g c = (ran-none _ _ _ _ _ _ _ _ _ _ _, refl)
+loop-init g c = (ran-none _ _ _ _ _ _ _ _ _ _ _, refl, stops-not (g.I.Receives.taken c.args.work.items))
 
 pub returns-then-take_one : goal.returns-then-take_one
 returns-then-take_one g c =
@@ -31,7 +33,12 @@ returns-then-take_one g c =
         ran = ran-on _ _ _ _ _ _ _ _ _ _ _ _ _ c.loop.invariant.0
             (ran-mended _ _ _ _ _ _ _ _ _ _ _ _ c.reload_if_halted.ensures.reloads
             (ran-there _ _ _ _ _ _ _ _ (λ p. WasEmpty p) _ _ _ _ _ there c.take_one.ensures.ran));
-        stopped = c.take_one.ensures.stops c.if-take_one.true;
+        stopped = (
+          g.I.Receives.taken c.loop.work.items,
+          c.loop.invariant.2,
+          c.take_one.ensures.stops c.if-take_one.true
+              ∙ ap (λ i. g.I.Receives.taken i ++ item.Stop ∷ []) c.reload_if_halted.ensures.takes_no_item,
+        );
       };
     }
 
@@ -48,4 +55,9 @@ loop-preserved g c =
           (ran-there _ _ _ _ _ _ _ _ (λ p. WasEmpty p) _ _ _ _ _ taken c.obey_one.ensures.ran))
           (ran-there _ _ _ _ _ _ _ _ (λ p. WasEmpty p) _ _ _ _ _ obeyed c.sign_if_idle.ensures.ran),
       signed,
+      goes-on _ _ _ c.loop.invariant.2
+          (subst (λ t. TakesNoStop t (g.I.Receives.taken c.take_one.new.self.items))
+          (ap g.I.Receives.taken c.reload_if_halted.ensures.takes_no_item)
+          (c.take_one.ensures.goes_on c.if-take_one.false))
+          (ap g.I.Receives.taken (c.sign_if_idle.ensures.takes_no_item ∙ c.obey_one.ensures.takes_no_item)),
     )

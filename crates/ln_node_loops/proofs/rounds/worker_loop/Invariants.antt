@@ -1,6 +1,6 @@
 use Rattle.std.specs.Prelude.{◌≡◌, false}
 use Rattle.ln_relay.specs.Position.{WasEmpty}
-use Rattle.ln_node_loops.specs.Turns.{Ran}
+use Rattle.ln_node_loops.specs.Turns.{Ran, TakesNoStop}
 use Rattle.ln_node_loops.specs.WorkerLoop.{loop_state}
 use Rattle.ln_node_loops.proofs.rounds.worker_loop.Given as goal
 
@@ -13,3 +13,4 @@ invariant-loop g l =
     (loop_state g.E.End.state g.W.Write.contents g.I.Receives.taken g.T.Sends.put g.B.Books.said
     g.A.Orders.replied g.A.Orders.allowed l.work)
     × (g.I.Receives.position l.work.items ≡ g.I.Receives.position l.initial.work.items)
+    × TakesNoStop (g.I.Receives.taken l.initial.work.items) (g.I.Receives.taken l.work.items)

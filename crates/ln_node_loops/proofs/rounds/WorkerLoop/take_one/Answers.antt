@@ -1,10 +1,11 @@
-use Rattle.std.proofs.Common.{refl, ap, ◌∙◌, ◌++◌, ◌∷◌, [], false, rules, sym, subst}
+use Rattle.std.proofs.Common.{refl, ap, ◌∙◌, ◌++◌, ◌∷◌, [], false, rules, sym, subst, append-nil}
 use Rattle.ln_relay.specs.Position.{WasEmpty}
 use Rattle.std.specs.Prelude.{not, ◌&&◌}
 use Rattle.ln_node_loops.specs.Owed.{owed}
 use Rattle.ln_node_loops.specs.Orders.{replies_to}
 use Rattle.ln_node_loops.specs.Turns.{events, drops}
 use Rattle.ln_node_loops.proofs.Running.{ran-item, ran-still}
+use Rattle.ln_node_loops.proofs.Stopping.{stop-only}
 use Rattle.ln_node_loops.proofs.rounds.WorkerLoop.take_one.Goals as goal
 
 pub returns : goal.returns
@@ -30,10 +31,13 @@ returns g c =
           ∙ ap (λ n. g.A.Orders.replied c.args.self.now.orders ++ replies_to n c.serve-turned.result.answer)
           c.subject_in-subject.ensures)
           c.reply.ensures.tells_nothing;
-      stops = λ is. (
-        g.I.Receives.taken c.args.self.now.items,
-        c.in-Some.ensures.appends
-            ∙ ap (λ t. g.I.Receives.taken c.args.self.now.items ++ t ∷ []) (c.is_stop-stops.ensures is),
+      stops = λ is. c.in-Some.ensures.appends
+          ∙ ap (λ t. g.I.Receives.taken c.args.self.now.items ++ t ∷ [])
+          (stop-only c.in-Some.item (sym c.is_stop-stops.ensures ∙ is));
+      goes_on = λ is. (
+        c.in-Some.item ∷ [],
+        (sym c.is_stop-stops.ensures ∙ is, tt),
+        c.in-Some.ensures.appends,
       );
       position_stays = c.in-Some.ensures.position_stays;
       was_empty = λ e. absurd cc;
@@ -42,7 +46,13 @@ returns g c =
 pub returns-in_default : goal.returns-in_default
 returns-in_default g c = record {
   ran = ran-still _ _ _ _ _ _ _ _ _ _ _ _ refl refl (search rules) refl refl refl refl;
-  stops = λ e. ([], cc);
+  stops = λ e. absurd cc;
+  goes_on = λ e. (
+    [],
+    tt,
+    c.recv.ensures.changes_nothing_if_none c.in_default.is
+        ∙ sym (append-nil (g.I.Receives.taken c.args.self.now.items)),
+  );
   position_stays = c.recv.ensures.position_stays;
   was_empty = λ e. subst (λ t. WasEmpty (g.I.Receives.position c.args.self.now.items) t)
       (sym (c.recv.ensures.changes_nothing_if_none c.in_default.is)) (c.recv.ensures.was_empty_if_none c.in_default.is);

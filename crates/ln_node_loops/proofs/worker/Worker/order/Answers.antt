@@ -4,4 +4,4 @@ use Rattle.ln_node_loops.proofs.worker.Worker.order.Goals as goal
 
 pub returns-clause-turn : goal.returns-clause-turn
 returns-clause-turn g c = λ own_init known.
-    c.obey-outputs.ensures.turn OfUser own_init known (sym c.is_of_records.ensures ∙ c.if-is_of_records.false)
+    c.obey-outputs.ensures.turn OfUser own_init known (sym c.is_reserved.ensures ∙ c.if-is_reserved.false)
