@@ -1,5 +1,6 @@
 //! Why a message, a command, a script or a record is refused, by number.
 
+use crate::lost_data::LostData;
 use crate::peer_rule::PeerRule;
 use ln_bytes::Fault;
 use std::alloc::{AllocError, AllocFailed};
@@ -11,7 +12,8 @@ use thiserror::Error;
 ///
 /// 1 to 9 tell of bytes, 20 to 37 of a peer's message, 40 to 49 of a command (nothing has changed),
 /// 60 to 65 of the surroundings, 70 and 71 of a record. The text is `refused` and the number; for
-/// `PeerLimit` the number of the rule that it carries follows, for `BadScript` the word `line` and the line.
+/// `PeerLimit` the number of the rule that it carries follows, for `BadScript` the word `line` and the line, and for
+/// `ReestablishNumber` whose data is lost, where that is proved: `own data lost` or `peer data lost`.
 #[derive(Clone, Copy, Debug, PartialEq, Eq, Error)]
 pub enum Refusal {
     /// 1: the bytes end inside a value.
@@ -60,8 +62,8 @@ pub enum Refusal {
     SecretWrong,
     /// 33: a revocation that answers no signature.
     NothingToRevoke,
-    /// 34: `channel_reestablish` with a number that can't be served.
-    ReestablishNumber,
+    /// 34: `channel_reestablish` with a number that can't be served; carries whose data is lost, as far as it proves it.
+    ReestablishNumber(LostData),
     /// 35: an HTLC is added behind its sender's shutdown.
     AddAfterShutdown,
     /// 36: a closing fee that can't be agreed to.
@@ -138,7 +140,7 @@ impl Refusal {
             Refusal::SignatureWrong => 31,
             Refusal::SecretWrong => 32,
             Refusal::NothingToRevoke => 33,
-            Refusal::ReestablishNumber => 34,
+            Refusal::ReestablishNumber(_) => 34,
             Refusal::AddAfterShutdown => 35,
             Refusal::FeeOutside => 36,
             Refusal::PeerError => 37,
@@ -192,7 +194,7 @@ impl Refusal {
             Refusal::SignatureWrong => "SignatureWrong",
             Refusal::SecretWrong => "SecretWrong",
             Refusal::NothingToRevoke => "NothingToRevoke",
-            Refusal::ReestablishNumber => "ReestablishNumber",
+            Refusal::ReestablishNumber(_) => "ReestablishNumber",
             Refusal::AddAfterShutdown => "AddAfterShutdown",
             Refusal::FeeOutside => "FeeOutside",
             Refusal::PeerError => "PeerError",
@@ -228,6 +230,12 @@ impl Display for Refusal {
         match self {
             Refusal::PeerLimit(rule) => write!(f, "refused {} {}", self.number(), rule.number()),
             Refusal::BadScript { line } => write!(f, "refused {} line {line}", self.number()),
+            Refusal::ReestablishNumber(LostData::Own) => {
+                write!(f, "refused {} own data lost", self.number())
+            }
+            Refusal::ReestablishNumber(LostData::Peer) => {
+                write!(f, "refused {} peer data lost", self.number())
+            }
             _ => write!(f, "refused {}", self.number()),
         }
     }
