@@ -22,7 +22,8 @@ use Rattle.ln_log.specs.Log.{covered, counts_of, view_for}
 use Rattle.ln_dance.specs.Dance.{Dancer, view_at, owes, after_sign, signed_message, after_accept, revoked_message}
 use Rattle.ln_dance.specs.Dance.{after_learn, with_log, with_next_point}
 use Rattle.ln_dance.specs.Resume.{secret_or_zeros, reestablish_message, lacks_signature, lacks_revocation}
-use Rattle.ln_dance.specs.Resume.{can_be_served, knows_secret, resume_fault, signature_again, revocation_again}
+use Rattle.ln_dance.specs.Resume.{can_be_served, knows_secret, lost_data, resume_fault, signature_again}
+use Rattle.ln_dance.specs.Resume.{revocation_again}
 use Rattle.ln_dance.specs.Reconnect.{KeepsUp, HaveParted, HasSigned, HasRevoked}
 
 -- ---- what is told is served
@@ -85,11 +86,11 @@ knows k n o h = elim (eqb_tells n 0) [
   | inr g ↦ second_holds _ _ (is_told k n o g.1 h)
 ]
 
-abbrev answer_by : Bool → Bool → Option Refusal
-answer_by b c = cond b (cond c None (Some refusal.SecretWrong)) (Some refusal.ReestablishNumber)
+abbrev answer_by : Refusal → Bool → Bool → Option Refusal
+answer_by r b c = cond b (cond c None (Some refusal.SecretWrong)) (Some r)
 
-served_if : (b c : Bool) → b ≡ true → c ≡ true → answer_by b c ≡ None
-served_if b c eb ec = ap (λ x. answer_by x c) eb ∙ ap (λ x. answer_by true x) ec
+served_if : (r : Refusal) (b c : Bool) → b ≡ true → c ≡ true → answer_by r b c ≡ None
+served_if r b c eb ec = ap (λ x. answer_by r x c) eb ∙ ap (λ x. answer_by r true x) ec
 
 module _ (a b : Signer) (x y : Dancer) (m : ChannelReestablish) (h : HaveParted a b x y)
     (e : m ≡ reestablish_message b y) where
@@ -104,8 +105,9 @@ module _ (a b : Signer) (x y : Dancer) (m : ChannelReestablish) (h : HaveParted 
   pub served : resume_fault a m x ≡ None
   served =
       ap (λ (n : ChannelReestablish). resume_fault a n x) e
-      ∙ served_if (can_be_served (reestablish_message b y) x) (knows_secret a (reestablish_message b y))
-      is_served (knows a y.numbers.revoked y.peer.secret h.back.secret)
+      ∙ served_if (refusal.ReestablishNumber (lost_data a (reestablish_message b y) x))
+      (can_be_served (reestablish_message b y) x) (knows_secret a (reestablish_message b y)) is_served
+      (knows a y.numbers.revoked y.peer.secret h.back.secret)
 
   pub lacked_signature : lacks_signature m x ≡ true ↔ (y.numbers.commitment + 1 ≡ x.numbers.signed)
   lacked_signature =

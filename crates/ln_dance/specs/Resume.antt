@@ -1,11 +1,13 @@
 -- What a side tells as a connection comes back, and what it sends again by what the peer tells (BOLT 2, "Message
 -- Retransmission").
 use Rattle.std.specs.Prelude.{ℕ, ◌+◌, ◌-◌, List, [], ◌∷◌, ◌++◌, map, replicate, Bool, ◌&&◌, ◌||◌, ◌==◌}
-use Rattle.std.specs.Prelude.{Option, Some, None, if◌then◌else◌}
+use Rattle.std.specs.Prelude.{nat_lt, nat_le, Option, Some, None, if◌then◌else◌}
 use Rattle.ln_bytes.specs.Same.{are_same}
 use Rattle.ln_msgs.specs.declared.messages.commitments.ChannelReestablish.{ChannelReestablish}
 use Rattle.ln_msgs.specs.declared.messages.commitments.CommitmentSigned.{CommitmentSigned}
 use Rattle.ln_msgs.specs.declared.messages.commitments.RevokeAndAck.{RevokeAndAck}
+use Rattle.ln_refusals.specs.declared.lost_data.LostData.{LostData}
+use Rattle.ln_refusals.specs.declared.lost_data.LostData.TheVariants.{Unproved, Own, Peer}
 use Rattle.ln_refusals.specs.declared.refusal.Refusal.{Refusal}
 use Rattle.ln_refusals.specs.declared.refusal.Refusal.TheVariants as refusal
 use Rattle.ln_keys.specs.Signer.{Signer}
@@ -15,7 +17,7 @@ use Rattle.ln_dance.specs.declared.dance.Later.{Later}
 use Rattle.ln_dance.specs.declared.dance.Later.TheVariants.{Signature, Revocation}
 use Rattle.ln_dance.specs.declared.resume.Resend.{Resend}
 use Rattle.ln_dance.specs.declared.resume.Resend.TheVariants as resend
-use Rattle.ln_dance.specs.Dance.{Dancer, view_at}
+use Rattle.ln_dance.specs.Dance.{Dancer, view_at, last_number}
 use Rattle.ln_dance.specs.Messages.{update_message}
 
 -- ---- what a side tells
@@ -57,10 +59,33 @@ abbrev pub knows_secret : Signer → ChannelReestablish → Bool
 knows_secret keys m =
     (m.next_revocation_number == 0) || are_same m.last_secret (keys.secret_of (m.next_revocation_number - 1))
 
+-- ---- whose data is lost, where the peer can't be served
+
+-- it tells the secret of a commitment that this side hasn't revoked
+abbrev pub tells_of_later : ChannelReestablish → Dancer → Bool
+tells_of_later m d =
+    nat_lt d.numbers.commitment m.next_revocation_number && nat_le m.next_revocation_number (last_number + 1)
+
+-- none of its numbers is ahead of what this side has sent
+abbrev pub tells_of_earlier : ChannelReestablish → Dancer → Bool
+tells_of_earlier m d =
+    nat_le m.next_commitment_number (d.numbers.signed + 1) && nat_le m.next_revocation_number d.numbers.commitment
+
+-- the secret that it tells decides
+abbrev pub is_judged_by_secret : ChannelReestablish → Dancer → Bool
+is_judged_by_secret m d = can_be_served m d || (tells_of_later m d || tells_of_earlier m d)
+
+-- whose data its numbers and its secret prove to be lost
+abbrev pub lost_data : Signer → ChannelReestablish → Dancer → LostData
+lost_data keys m d =
+    if (tells_of_later m d || tells_of_earlier m d) && knows_secret keys m
+    then (if tells_of_later m d then Own else Peer)
+    else Unproved
+
 abbrev pub resume_fault : Signer → ChannelReestablish → Dancer → Option Refusal
 resume_fault keys m d =
     if can_be_served m d then (if knows_secret keys m then None else Some refusal.SecretWrong)
-    else Some refusal.ReestablishNumber
+    else Some (refusal.ReestablishNumber (lost_data keys m d))
 
 -- ---- what is sent again
 

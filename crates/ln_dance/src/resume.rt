@@ -3,12 +3,12 @@
 ghost use Rattle.std.specs.Prelude.{◌≡◌};
 ghost use Rattle.ln_dance.specs.Resume.{knows_secret};
 
-use crate::dance::{Dance, Later};
+use crate::dance::{Dance, LAST_NUMBER, Later};
 use crate::messages::update_message;
 use ln_keys::{ChannelKeys, Signed};
 use ln_log::Pair;
 use ln_msgs::{ChannelReestablish, CommitmentSigned, Message, Records, RevokeAndAck};
-use ln_refusals::Refusal;
+use ln_refusals::{LostData, Refusal};
 use std::alloc::Global;
 use std::marker::Model;
 
@@ -73,6 +73,7 @@ impl Dance {
     ghost use Rattle.ln_dance.specs.Dance.{Dancer, StandsFor};
     ghost use Rattle.ln_dance.specs.Messages.{update_message};
     ghost use Rattle.ln_dance.specs.Resume.{reestablish_message, lacks_signature, lacks_revocation, can_be_served};
+    ghost use Rattle.ln_dance.specs.Resume.{tells_of_later, tells_of_earlier, is_judged_by_secret, lost_data};
     ghost use Rattle.ln_dance.specs.Resume.{resume_fault, updates_again, signature_again, revocation_again};
     ghost use Rattle.ln_dance.specs.Resume.{signature_owed, revocation_owed, owed, is_before_the_first};
 
@@ -131,6 +132,49 @@ impl Dance {
                 || self.lacks_revocation(message))
     }
 
+    // Whether the peer tells the secret of a commitment that this side hasn't revoked.
+    fn tells_of_later(&self, message: &ChannelReestablish) -> bool
+        ensures { (d : Dancer) → StandsFor self.now d → result ≡ tells_of_later message.now d }
+    {
+        let revoked = message.next_revocation_number;
+        self.numbers().commitment < revoked && revoked <= LAST_NUMBER + 1
+    }
+
+    // Whether none of the peer's numbers is ahead of what this side has sent.
+    fn tells_of_earlier(&self, message: &ChannelReestablish) -> bool
+        ensures { (d : Dancer) → StandsFor self.now d → result ≡ tells_of_earlier message.now d }
+    {
+        let numbers = self.numbers();
+        message.next_commitment_number <= numbers.signed + 1
+            && message.next_revocation_number <= numbers.commitment
+    }
+
+    /// Whether the secret that the peer tells decides what becomes of its message: it can be served, or it may prove
+    /// whose data is lost. Takes no memory.
+    pub fn is_judged_by_secret(&self, message: &ChannelReestablish) -> bool
+        ensures { (d : Dancer) → StandsFor self.now d → result ≡ is_judged_by_secret message.now d }
+    {
+        self.can_be_served(message)
+            || self.tells_of_later(message)
+            || self.tells_of_earlier(message)
+    }
+
+    // Whose data the peer's numbers and its secret prove to be lost.
+    fn lost_data<K: ChannelKeys>(&self, keys: &K, message: &ChannelReestablish) -> LostData
+        ensures { (d : Dancer) → StandsFor self.now d → result ≡ lost_data (K.signer keys.now) message.now d }
+    {
+        let is_later = self.tells_of_later(message);
+        if (is_later || self.tells_of_earlier(message)) && knows_secret(keys, message) {
+            if is_later {
+                LostData::Own
+            } else {
+                LostData::Peer
+            }
+        } else {
+            LostData::Unproved
+        }
+    }
+
     // What is wrong with what the peer tells.
     fn resume_refusal<K: ChannelKeys>(
         &self,
@@ -140,7 +184,7 @@ impl Dance {
         ensures { (d : Dancer) → StandsFor self.now d → result ≡ resume_fault (K.signer keys.now) message.now d }
     {
         if !self.can_be_served(message) {
-            Some(Refusal::ReestablishNumber)
+            Some(Refusal::ReestablishNumber(self.lost_data(keys, message)))
         } else if !knows_secret(keys, message) {
             Some(Refusal::SecretWrong)
         } else {
@@ -241,8 +285,9 @@ impl Dance {
     /// changes.
     ///
     /// 34 where the number of the next commitment is neither that behind the last signature nor, while this is
-    /// unrevoked, its own; or where the number of revocations is neither that of the own commitment nor one less. Then
-    /// 32 where revocations were taken and the secret isn't that of the last one. 60 where there was no memory.
+    /// unrevoked, its own; or where the number of revocations is neither that of the own commitment nor one less. It
+    /// carries whose data is lost, where the peer's secret proves it. Then 32 where revocations were taken and the
+    /// secret isn't that of the last one. 60 where there was no memory.
     pub fn resume<K: ChannelKeys>(
         &self,
         alloc: Global,

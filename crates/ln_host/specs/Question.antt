@@ -8,7 +8,7 @@ use Rattle.ln_keys.specs.declared.view.View.{View}
 use Rattle.ln_log.specs.declared.log.Pair.TheVariants as pair
 use Rattle.ln_log.specs.declared.log.Side.TheVariants as side
 use Rattle.ln_dance.specs.Dance.{Dancer, view_at, is_last, owes}
-use Rattle.ln_dance.specs.Resume.{can_be_served}
+use Rattle.ln_dance.specs.Resume.{is_judged_by_secret}
 use Rattle.ln_channel.specs.declared.machine.ConnectionState.{ConnectionState}
 use Rattle.ln_channel.specs.declared.machine.Stage.{Stage}
 use Rattle.ln_channel.specs.declared.machine.Stage.TheVariants as stage
@@ -47,7 +47,8 @@ asked_open m e = None
 -- the own secret that the peer tells back, where it has taken a revocation
 abbrev pub asked_back : ChannelReestablish → Dancer → Option Question
 asked_back m d =
-    if_so (can_be_served m d && not (m.next_revocation_number == 0)) (question.OwnSecret (m.next_revocation_number - 1))
+    if_so (is_judged_by_secret m d && not (m.next_revocation_number == 0))
+    (question.OwnSecret (m.next_revocation_number - 1))
 
 -- until the peer is there
 abbrev pub asked_first : Message → End → Option Question

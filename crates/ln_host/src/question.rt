@@ -135,7 +135,7 @@ fn asked_back(dance: &Dance, message: &ChannelReestablish) -> Option<Question>
     ensures { (d : Dancer) → dancing.StandsFor dance.now d → result ≡ asked_back message.now d }
 {
     let next = message.next_revocation_number;
-    if !dance.can_be_served(message) || next == 0 {
+    if !dance.is_judged_by_secret(message) || next == 0 {
         return None;
     }
     Some(Question::OwnSecret(next - 1))

@@ -8,7 +8,7 @@ use Rattle.ln_keys.specs.declared.view.View.{View}
 use Rattle.ln_msgs.specs.declared.messages.message.Message.{Message}
 use Rattle.ln_msgs.specs.declared.messages.message.Message.TheVariants as message
 use Rattle.ln_dance.specs.Dance.{is_last, owes}
-use Rattle.ln_dance.specs.Resume.{can_be_served}
+use Rattle.ln_dance.specs.Resume.{is_judged_by_secret}
 use Rattle.ln_channel.specs.declared.machine.ConnectionState.{ConnectionState}
 use Rattle.ln_channel.specs.declared.machine.ConnectionState.TheVariants as connection
 use Rattle.ln_channel.specs.declared.machine.Stage.{Stage}
@@ -53,7 +53,7 @@ open_asked m e = refl
 
 first_asked : (m : Message) (e : End) → channel_asked (asked_first m e) ≡ None
 first_asked (message.ChannelReestablish m) e =
-    no_channel (can_be_served m e.dance && not (m.next_revocation_number == 0))
+    no_channel (is_judged_by_secret m e.dance && not (m.next_revocation_number == 0))
     (question.OwnSecret (m.next_revocation_number - 1)) refl
 first_asked m e = refl
 

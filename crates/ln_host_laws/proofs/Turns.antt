@@ -3,6 +3,7 @@ use Rattle.std.proofs.Common.{◌≡◌, refl, sym, ap, ◌∙◌, ℕ, ◌+◌,
 use Rattle.std.proofs.Common.{not, ◌&&◌, ◌||◌, ◌==◌, Option, Some, None, Result, Ok, Err, if◌then◌else◌, arith}
 use Rattle.std.proofs.Common.{length, append_assoc}
 use Rattle.std.proofs.lemmas.List.{map-append}
+use Rattle.ln_refusals.specs.declared.lost_data.LostData.TheVariants.{Unproved, Own, Peer}
 use Rattle.ln_refusals.specs.declared.refusal.Refusal.{Refusal}
 use Rattle.ln_refusals.specs.declared.refusal.Refusal.TheVariants as refusal
 use Rattle.ln_bytes.specs.Same.{are_same}
@@ -27,8 +28,8 @@ use Rattle.ln_dance.specs.declared.resume.Resend.{Resend}
 use Rattle.ln_dance.specs.declared.resume.Resend.TheVariants as resend
 use Rattle.ln_dance.specs.Dance.{Dancer, is_right, is_last, owes, after_accept, revoked_message, signed_message}
 use Rattle.ln_dance.specs.Messages.{update_message, add_of, fulfil_of, fail_of, malformed_of, fee_of}
-use Rattle.ln_dance.specs.Resume.{can_be_served, resume_fault, lacks_signature, lacks_revocation}
-use Rattle.ln_dance.specs.Resume.{updates_again, signature_again, revocation_again}
+use Rattle.ln_dance.specs.Resume.{can_be_served, tells_of_later, tells_of_earlier, resume_fault, lacks_signature}
+use Rattle.ln_dance.specs.Resume.{lacks_revocation, updates_again, signature_again, revocation_again}
 use Rattle.ln_dance.specs.Resume.{owed_by, owed, is_before_the_first}
 use Rattle.ln_channel.specs.declared.output.Output.{Output}
 use Rattle.ln_channel.specs.declared.output.Output.TheVariants as output
@@ -195,18 +196,26 @@ taken_filled k y z m e a =
 
 -- ---- a connection that comes back
 
-abbrev back_by : Bool → Bool → Bool → Option Refusal
-back_by served first same =
-    if served then (if first || same then None else Some refusal.SecretWrong) else Some refusal.ReestablishNumber
+abbrev back_by : Bool → Bool → Bool → Bool → Bool → Option Refusal
+back_by served later earlier first same =
+    if served then (if first || same then None else Some refusal.SecretWrong)
+    else Some (refusal.ReestablishNumber (
+    if (later || earlier) && (first || same) then (if later then Own else Peer) else Unproved))
 
-back_so : (k : Signer) (y : Bool) (z : List ℕ) (m : ChannelReestablish) (served first : Bool)
-    → IsRight k (told k y z) (if_so (served && not first) (question.OwnSecret (m.next_revocation_number - 1)))
-    (message.ChannelReestablish m)
-    → back_by served first (are_same m.last_secret z)
-    ≡ back_by served first (are_same m.last_secret (k.secret_of (m.next_revocation_number - 1)))
-back_so k y z m true true a = refl
-back_so k y z m true false a = ap (λ s. back_by true false (are_same m.last_secret s)) a
-back_so k y z m false first a = refl
+back_so : (k : Signer) (y : Bool) (z : List ℕ) (m : ChannelReestablish) (served later earlier first : Bool)
+    → IsRight k (told k y z) (if_so ((served || (later || earlier)) && not first)
+    (question.OwnSecret (m.next_revocation_number - 1))) (message.ChannelReestablish m)
+    → back_by served later earlier first (are_same m.last_secret z)
+    ≡ back_by served later earlier first (are_same m.last_secret (k.secret_of (m.next_revocation_number - 1)))
+back_so k y z m true later earlier true a = refl
+back_so k y z m true later earlier false a =
+    ap (λ s. back_by true later earlier false (are_same m.last_secret s)) a
+back_so k y z m false later earlier true a = refl
+back_so k y z m false true earlier false a =
+    ap (λ s. back_by false true earlier false (are_same m.last_secret s)) a
+back_so k y z m false false true false a =
+    ap (λ s. back_by false false true false (are_same m.last_secret s)) a
+back_so k y z m false false false false a = refl
 
 -- updates hold no answers of keys
 update_sent : (k : Signer) (d : Dancer) (channel : List ℕ) (u : Update)
@@ -307,7 +316,8 @@ pub resume_filled : (k : Signer) (y : Bool) (z : List ℕ) (m : ChannelReestabli
 resume_filled k y z m e a =
     unless_filled k (resume_fault (host k y z) m e.dance) (resume_fault k m e.dance)
     (completed (host k y z) (resumed (host k y z) m e)) (completed k (resumed k m e))
-    (back_so k y z m (can_be_served m e.dance) (m.next_revocation_number == 0) a)
+    (back_so k y z m (can_be_served m e.dance) (tells_of_later m e.dance) (tells_of_earlier m e.dance)
+    (m.next_revocation_number == 0) a)
     (completed_filled k y z (resumed (host k y z) m e) ∙ ap (completed k) (resumed_filled k y z m e))
 
 -- ---- a command

@@ -1,5 +1,6 @@
 -- A failure of a channel has a number in its record, and none is 70.
 use Rattle.std.proofs.Common.{◌≡◌, refl, true, Option, Some, None}
+use Rattle.ln_refusals.specs.declared.lost_data.LostData.TheVariants as lost_data
 use Rattle.ln_refusals.specs.declared.refusal.Refusal.{Refusal}
 use Rattle.ln_refusals.specs.declared.refusal.Refusal.TheVariants as refusal
 use Rattle.ln_channel.specs.Failing.{fails}
@@ -35,7 +36,9 @@ failing refusal.NotFunder e = (refl, refl)
 failing refusal.SignatureWrong e = (refl, refl)
 failing refusal.SecretWrong e = (refl, refl)
 failing refusal.NothingToRevoke e = (refl, refl)
-failing refusal.ReestablishNumber e = (refl, refl)
+failing (refusal.ReestablishNumber lost_data.Unproved) e = (refl, refl)
+failing (refusal.ReestablishNumber lost_data.Own) e = (refl, refl)
+failing (refusal.ReestablishNumber lost_data.Peer) e = (refl, refl)
 failing refusal.AddAfterShutdown e = (refl, refl)
 failing refusal.FeeOutside e = absurd (cc)
 failing refusal.PeerError e = (refl, refl)

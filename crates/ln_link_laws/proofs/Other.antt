@@ -36,7 +36,7 @@ use Rattle.ln_log.specs.Limits.{update_fault as rule_fault, is_at_update_limit, 
 use Rattle.ln_log.specs.Log as log
 use Rattle.ln_log.specs.Log.{Log, peer_limit, removal_fault, length_fault, proposal_fault, taken_fault, same_counts}
 use Rattle.ln_dance.specs.Dance.{Dancer, view_at, owes, is_last, is_right, sign_fault, accept_fault, learn_fault}
-use Rattle.ln_dance.specs.Resume.{can_be_served, knows_secret, resume_fault}
+use Rattle.ln_dance.specs.Resume.{can_be_served, knows_secret, lost_data, resume_fault}
 use Rattle.ln_close.specs.declared.closing.FeeAnswer.{FeeAnswer}
 use Rattle.ln_close.specs.declared.closing.FeeAnswer.TheVariants as answer
 use Rattle.ln_close.specs.declared.closing.Closing.{Closing}
@@ -247,7 +247,8 @@ revocation_other k m d =
 
 pub resume_other : (k : Signer) (m : ChannelReestablish) (d : Dancer) → OtherFault (resume_fault k m d)
 resume_other k m d =
-    if_not (can_be_served m d) refusal.ReestablishNumber (cond (knows_secret k m) None (Some refusal.SecretWrong)) refl
+    if_not (can_be_served m d) (refusal.ReestablishNumber (lost_data k m d))
+    (cond (knows_secret k m) None (Some refusal.SecretWrong)) refl
     (one_not (knows_secret k m) refusal.SecretWrong refl)
 
 -- ---- commands

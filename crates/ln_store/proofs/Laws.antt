@@ -3,9 +3,9 @@ use Rattle.std.proofs.Common.{◌≡◌, ℕ, ◌/◌, ◌%◌, ◌<◌, Bool, t
 use Rattle.std.proofs.Common.{None, nat_lt, ◌==◌, ◌+◌, ◌*◌, refl, sym, ap, ◌∙◌, arith, inl, inr}
 use Rattle.std.proofs.lemmas.Bool.{eqb-true, ltb-true, eqb-false}
 use Rattle.ln_bytes.proofs.Reading.{chosen}
+use Rattle.ln_refusals.specs.declared.lost_data.LostData.TheVariants as lost_data
 use Rattle.ln_refusals.specs.declared.refusal.Refusal.{Refusal}
 use Rattle.ln_refusals.specs.declared.refusal.Refusal.TheVariants as refusal
-use Rattle.ln_refusals.specs.Refusal.{refusal_number}
 use Rattle.ln_keys.specs.declared.role.Role.{Role}
 use Rattle.ln_keys.specs.declared.role.Role.TheVariants.{Funder, Fundee}
 use Rattle.ln_log.specs.declared.update.Add.{Add}
@@ -26,8 +26,8 @@ use Rattle.ln_store.specs.declared.record.Flags.{Flags}
 use Rattle.ln_store.specs.Format.{Format, number, fixed, sized, ◌&◌, kind}
 use Rattle.ln_store.specs.Items as it
 use Rattle.ln_store.specs.Items.{role_number, role_of, bit, later_bit, is_odd, flags_number, flags_of, failure_with}
-use Rattle.ln_store.specs.Items.{failure_number, failure_of, failures, update_tag, update_form, add_form, event_tag}
-use Rattle.ln_store.specs.Items.{event_form, mark_tag, mark_form, the_fulfil, the_fail, the_malformed, the_fee}
+use Rattle.ln_store.specs.Items.{failure_code, failure_number, failure_of, failures, update_tag, update_form, add_form}
+use Rattle.ln_store.specs.Items.{event_tag, event_form, mark_tag, mark_form, the_fulfil, the_fail, the_malformed, the_fee}
 use Rattle.ln_store.specs.Items.{own_number, peer_number, the_close, forward_of, reason_of, code_of, preimage_of}
 use Rattle.ln_store.specs.Items.{event_held}
 use Rattle.ln_store.proofs.Formats.{IsLawful, number_is_lawful, fixed_is_lawful, sized_is_lawful, both_are_lawful}
@@ -170,8 +170,8 @@ flags_are_lawful = code_is_lawful 1 flags_number flags_of (λ n x b e. flags_bac
 
 failure_back_of : (n : ℕ) (rs : List Refusal) (x : Option Refusal) → failure_with n rs ≡ Some x → failure_number x ≡ n
 failure_back_of n [] x e = absurd cc
-failure_back_of n (r ∷ rs) x e = elim (chosen (n == refusal_number r) (Some (Some r)) _ (Some x) e) [
-  | inl h ↦ ap failure_number (sym (some_is (Some r) x h.1)) ∙ sym (eqb-true n (refusal_number r) h.0)
+failure_back_of n (r ∷ rs) x e = elim (chosen (n == failure_code r) (Some (Some r)) _ (Some x) e) [
+  | inl h ↦ ap failure_number (sym (some_is (Some r) x h.1)) ∙ sym (eqb-true n (failure_code r) h.0)
   | inr h ↦ failure_back_of n rs x h.1
 ]
 
@@ -206,7 +206,12 @@ failure_forth (Some refusal.NotFunder) y e = sym (some_is (Some refusal.NotFunde
 failure_forth (Some refusal.SignatureWrong) y e = sym (some_is (Some refusal.SignatureWrong) y e)
 failure_forth (Some refusal.SecretWrong) y e = sym (some_is (Some refusal.SecretWrong) y e)
 failure_forth (Some refusal.NothingToRevoke) y e = sym (some_is (Some refusal.NothingToRevoke) y e)
-failure_forth (Some refusal.ReestablishNumber) y e = sym (some_is (Some refusal.ReestablishNumber) y e)
+failure_forth (Some (refusal.ReestablishNumber lost_data.Unproved)) y e =
+    sym (some_is (Some (refusal.ReestablishNumber lost_data.Unproved)) y e)
+failure_forth (Some (refusal.ReestablishNumber lost_data.Own)) y e =
+    sym (some_is (Some (refusal.ReestablishNumber lost_data.Own)) y e)
+failure_forth (Some (refusal.ReestablishNumber lost_data.Peer)) y e =
+    sym (some_is (Some (refusal.ReestablishNumber lost_data.Peer)) y e)
 failure_forth (Some refusal.AddAfterShutdown) y e = sym (some_is (Some refusal.AddAfterShutdown) y e)
 failure_forth (Some refusal.FeeOutside) y e = absurd cc
 failure_forth (Some refusal.PeerError) y e = sym (some_is (Some refusal.PeerError) y e)

@@ -1,6 +1,7 @@
 -- What is stored of one end of a channel, item by item: how each is written and read.
 use Rattle.std.specs.Prelude.{ℕ, ◌+◌, ◌*◌, ◌/◌, ◌%◌, List, [], ◌∷◌, Bool, true, false, ◌==◌, nat_lt, Option, Some, None}
 use Rattle.std.specs.Prelude.{if◌then◌else◌}
+use Rattle.ln_refusals.specs.declared.lost_data.LostData.TheVariants.{Unproved, Own, Peer}
 use Rattle.ln_refusals.specs.declared.refusal.Refusal.{Refusal}
 use Rattle.ln_refusals.specs.declared.refusal.Refusal.TheVariants as refusal
 use Rattle.ln_refusals.specs.Refusal.{refusal_number}
@@ -91,20 +92,27 @@ abbrev pub failures : List Refusal
 failures = refusal.OutOfPlace ∷ refusal.BadId ∷ refusal.AmountBelowMinimum ∷ refusal.TooManyHtlcs
     ∷ refusal.InFlightOver ∷ refusal.CannotAfford ∷ refusal.ExpiryRange ∷ refusal.NoSuchHtlc ∷ refusal.PreimageWrong
     ∷ refusal.NotFunder ∷ refusal.SignatureWrong ∷ refusal.SecretWrong ∷ refusal.NothingToRevoke
-    ∷ refusal.ReestablishNumber ∷ refusal.AddAfterShutdown ∷ refusal.PeerError ∷ []
+    ∷ refusal.ReestablishNumber Unproved ∷ refusal.ReestablishNumber Own ∷ refusal.ReestablishNumber Peer
+    ∷ refusal.AddAfterShutdown ∷ refusal.PeerError ∷ []
+
+-- its number, and at 34 whose data is lost in the higher byte: 1 the own, 2 the peer's
+abbrev pub failure_code : Refusal → ℕ
+failure_code (refusal.ReestablishNumber Own) = 34 + 256
+failure_code (refusal.ReestablishNumber Peer) = 34 + 512
+failure_code r = refusal_number r
 
 abbrev pub failure_with : ℕ → List Refusal → Option (Option Refusal)
 failure_with n [] = None
-failure_with n (r ∷ rs) = if n == refusal_number r then Some (Some r) else failure_with n rs
+failure_with n (r ∷ rs) = if n == failure_code r then Some (Some r) else failure_with n rs
 
 abbrev pub failure_number : Option Refusal → ℕ
 failure_number None = 0
-failure_number (Some r) = refusal_number r
+failure_number (Some r) = failure_code r
 
 abbrev pub failure_of : ℕ → Option (Option Refusal)
 failure_of n = if n == 0 then Some None else failure_with n failures
 
--- two bytes: 0 for none, else the number of a refusal by which a channel fails
+-- two bytes: 0 for none, else the code of a refusal by which a channel fails
 unfoldable pub failure : Format (Option Refusal)
 failure = code 2 failure_number failure_of
 

@@ -16,7 +16,7 @@ use ln_bytes::Bytes;
 use ln_close::Fees;
 use ln_dance::{Later, Numbers, Peer};
 use ln_keys::Role;
-use ln_refusals::Refusal;
+use ln_refusals::{LostData, Refusal};
 use std::alloc::Global;
 
 fn bit(flag: bool) -> u8
@@ -89,7 +89,7 @@ impl Stored for Flags {
     }
 }
 
-// The failure of this number, where a channel fails by it; 0 is none.
+// The failure of this code, where a channel fails by it; 0 is none. 290 and 546 are 34 with 1 and 2 in the higher byte.
 fn failure_of(number: u16) -> Option<Option<Refusal>>
     ensures { result ≡ failure_of number }
 {
@@ -108,7 +108,9 @@ fn failure_of(number: u16) -> Option<Option<Refusal>>
         31 => Refusal::SignatureWrong,
         32 => Refusal::SecretWrong,
         33 => Refusal::NothingToRevoke,
-        34 => Refusal::ReestablishNumber,
+        34 => Refusal::ReestablishNumber(LostData::Unproved),
+        290 => Refusal::ReestablishNumber(LostData::Own),
+        546 => Refusal::ReestablishNumber(LostData::Peer),
         35 => Refusal::AddAfterShutdown,
         37 => Refusal::PeerError,
         _ => return None,
@@ -121,6 +123,8 @@ fn failure_number(failure: &Option<Refusal>) -> u16
 {
     match failure {
         None => 0,
+        Some(Refusal::ReestablishNumber(LostData::Own)) => 290,
+        Some(Refusal::ReestablishNumber(LostData::Peer)) => 546,
         Some(refusal) => refusal.number(),
     }
 }
