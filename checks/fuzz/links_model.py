@@ -308,13 +308,13 @@ class Link(End):
         if self.halted:
             raise Refused(62)
         if self.failure:
-            raise Refused(self.failure)
+            raise Refused(*self.failure)
         try:
             self.hear(typ, m)
         except Refused as refused:
             number = refused.numbers[0]
             if 21 <= number <= 35 or number == 37:
-                self.failure = number
+                self.failure = refused.numbers
                 if self.stage != "saved":
                     self.stage = "gone"
             raise
@@ -393,11 +393,12 @@ class Link(End):
 
     def take_reestablish(self, m):
         n, r = m["n"], m["r"]
+        is_known = r == 0 or m["secret"] == self.keys.secret(r - 1)
         if not (n == self.signatures + 1 or n == self.signatures == self.revocations + 1):
-            raise Refused(34)
+            raise Refused(34, *(self.lost_data(n, r) if is_known else []))
         if r not in (self.commitment, self.commitment - 1):
-            raise Refused(34)
-        if r > 0 and m["secret"] != self.keys.secret(r - 1):
+            raise Refused(34, *(self.lost_data(n, r) if is_known else []))
+        if not is_known:
             raise Refused(32)
         super().take_reestablish(m)
 
@@ -415,7 +416,7 @@ class Link(End):
                 self.resume(u)
             return
         if self.failure:
-            raise Refused(self.failure)
+            raise Refused(*self.failure)
         if self.stage != "saved":
             raise Refused(40)
         if kind == "shutdown" and self.line == "met" and not self.shut and self.acknowledged[0] == len(self.own):
@@ -481,7 +482,8 @@ class Link(End):
     def stand(self):
         line = self.line + (" halted" if self.halted else "")
         if self.stage != "saved":
-            return f"{line} signed 0 committed 0 peer 0 balance 0/0 live 0 " + (f"refused {self.failure}" if self.failure else "open")
+            words = " ".join(["refused", *map(str, self.failure)]) if self.failure else "open"
+            return f"{line} signed 0 committed 0 peer 0 balance 0/0 live 0 {words}"
         words = self.line_at_end().split(" ", 1)[1]
         return f"{line} {words}".replace("failed", "refused")
 

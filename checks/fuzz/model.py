@@ -25,6 +25,8 @@ class Bad(Exception):
 
 
 class Refused(Exception):
+    """A refusal: its number, and the words that follow it."""
+
     def __init__(self, *numbers):
         self.numbers = numbers
 
@@ -470,6 +472,12 @@ class End:
         else:
             raise Refused(36)
 
+    def lost_data(self, n, r):
+        """What follows 34 where the peer's secret is right: whose data is lost, if either's is."""
+        if self.commitment < r <= 2**48:
+            return ["own data lost"]
+        return ["peer data lost"] if n <= self.signatures + 1 and r <= self.commitment else []
+
     def take_reestablish(self, m):
         n, r = m["n"], m["r"]
         owed = {"signature": [], "revocation": []}
@@ -477,11 +485,11 @@ class End:
             owed["signature"] = [lambda u=u: self.send_update(u) for u in self.own[self.acknowledged[0]:self.signed[0]]]
             owed["signature"].append(lambda: self.send(f"sign {self.signatures}", kind="sign"))
         elif n != self.signatures + 1:
-            raise Refused(34)
+            raise Refused(34, *self.lost_data(n, r))
         if r + 1 == self.commitment:
             owed["revocation"] = [lambda: self.send(f"revoke {self.commitment - 1}", kind="revoke")]
         elif r != self.commitment:
-            raise Refused(34)
+            raise Refused(34, *self.lost_data(n, r))
         self.line = "met"
         if self.commitment == 0 and n == 1 and self.ready_sent:
             self.send("channel_ready", kind="ready")
@@ -561,7 +569,7 @@ class End:
         if self.closed is not None:
             state = f"closed {self.closed}"
         if self.failure:
-            state = f"failed {self.failure}"
+            state = " ".join(["failed", *map(str, self.failure)])
         return (f"{self.name} signed {self.signed[0]} committed {self.current[0]} peer {self.acknowledged[1]} "
                 f"balance {self.balance(self.role, own, peer)}/{self.balance(other, peer, own)} live {live} {state}")
 

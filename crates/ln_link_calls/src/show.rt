@@ -82,18 +82,6 @@ fn put_output(
     }
 }
 
-/// A refusal by its number.
-fn put_refusal(text: &mut String, refusal: Refusal) -> Result<(), AllocError> {
-    let number = refusal.number();
-    match refusal {
-        Refusal::PeerLimit(rule) => {
-            let rule = rule.number();
-            write!(text, "refused {number} {rule}")
-        }
-        _ => write!(text, "refused {number}"),
-    }
-}
-
 /// How the peer is told of a refusal, if at all.
 fn put_reply(
     alloc: Global,
@@ -119,7 +107,7 @@ pub fn refused(
     replies: bool,
 ) -> Result<String, AllocError> {
     let mut text = String::new(alloc);
-    put_refusal(&mut text, refusal)?;
+    write!(&mut text, "{refusal}")?;
     if replies {
         put_reply(alloc, &mut text, refusal, y)?;
     }
@@ -157,7 +145,7 @@ fn put_status(text: &mut String, status: ChannelStatus) -> Result<(), AllocError
         ChannelStatus::Closed(fee) => write!(text, " closed {fee}"),
         ChannelStatus::Failed(refusal) => {
             text.push_str(" ")?;
-            put_refusal(text, refusal)
+            write!(text, "{refusal}")
         }
     }
 }

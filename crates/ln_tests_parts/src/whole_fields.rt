@@ -3,7 +3,7 @@
 use crate::narrow::Narrow;
 use ln_bytes::Fault;
 use ln_msgs::{Counted, Field, Incoming, Item, Message, answer_pings, decode};
-use ln_refusals::{PeerRule, Refusal};
+use ln_refusals::{LostData, PeerRule, Refusal};
 use std::alloc::{AllocError, Global};
 
 // A type, how many bytes its fields of fixed size take, the bytes of those behind them, and the names of all.
@@ -224,7 +224,7 @@ fn small_fields(rt: HostRuntime) -> Result<(), Fault> {
 }
 
 // The texts of all refusals.
-const TEXTS: [(Refusal, &str); 45] = [
+const TEXTS: [(Refusal, &str); 47] = [
     (Refusal::Truncated, "refused 1"),
     (Refusal::NotMinimal, "refused 2"),
     (Refusal::TlvOrder, "refused 3"),
@@ -248,7 +248,15 @@ const TEXTS: [(Refusal, &str); 45] = [
     (Refusal::SignatureWrong, "refused 31"),
     (Refusal::SecretWrong, "refused 32"),
     (Refusal::NothingToRevoke, "refused 33"),
-    (Refusal::ReestablishNumber, "refused 34"),
+    (Refusal::ReestablishNumber(LostData::Unproved), "refused 34"),
+    (
+        Refusal::ReestablishNumber(LostData::Own),
+        "refused 34 own data lost",
+    ),
+    (
+        Refusal::ReestablishNumber(LostData::Peer),
+        "refused 34 peer data lost",
+    ),
     (Refusal::AddAfterShutdown, "refused 35"),
     (Refusal::FeeOutside, "refused 36"),
     (Refusal::PeerError, "refused 37"),
