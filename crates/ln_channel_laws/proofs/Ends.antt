@@ -9,4 +9,6 @@ pub mod Runs
 pub mod StoppedActs
 pub mod OnceMet
 pub mod Promised
+pub mod Numbers
+pub mod LostData
 pub mod Signatures

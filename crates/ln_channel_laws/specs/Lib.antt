@@ -10,6 +10,7 @@ pub mod Setup
 pub mod Doing
 pub mod Longest
 pub mod Signing
+pub mod LostData
 pub use Rattle.ln_log.specs.Machine
 pub use Rattle.ln_log.specs.Log
 pub use Rattle.ln_channel.specs.Opening

@@ -24,6 +24,7 @@ ghost use Rattle.ln_channel_laws.specs.Answers.{BothHaveAnswered};
 ghost use Rattle.ln_channel_laws.specs.Closes.{BothClose};
 ghost use Rattle.ln_channel_laws.specs.Doing.{BothDo};
 ghost use Rattle.ln_channel_laws.specs.Longest.{BothAreLongest};
+ghost use Rattle.ln_channel_laws.specs.LostData.{BothTellWhoLost};
 ghost use Rattle.ln_channel_laws.specs.Promises.{OneFee, Agrees, NoneAddsLate, ReadinessAgrees};
 ghost use Rattle.ln_channel_laws.specs.Setup.{setup_of, AreSetUp};
 ghost use Rattle.ln_channel_laws.specs.Signing.{BothSign, SignsIn};
@@ -144,4 +145,15 @@ pub fn signatures_are_over_what_is_covered()
         → SignsIn a b side step (run a b steps (opened funder fundee)) }
     ensures in_flight { (a b : Signer) (s : OpenSpec) (c : Config) (funder fundee : Opened) (steps : List Step)
         → ArePartners a b → Opens a b s c funder fundee → BothSign a b (run a b steps (opened funder fundee)) }
+{}
+
+/// A law: where an end comes back with any older record of its own, and the other end is as it is now, each finds by
+/// the other's `channel_reestablish` whose data is lost (BOLT 2, "Message Retransmission"). The older end finds its own
+/// exactly where the other end can revoke the commitment that it still holds, so it never publishes a revoked one; the
+/// other end serves it, or finds that its peer's is lost. Neither ever finds it the other way round.
+pub fn who_has_lost_data()
+    ensures { (a b : Signer) (s : OpenSpec) (c : Config) (funder fundee : Opened) (before after : List Step)
+        → ArePartners a b → Opens a b s c funder fundee
+        → BothTellWhoLost a b (run a b before (opened funder fundee))
+        (run a b after (run a b before (opened funder fundee))) }
 {}

@@ -10,6 +10,7 @@ pub use laws::{
     closing_ends, commands_are_done_exactly, ends_stay_as_set_up, held_was_covered,
     no_add_follows_a_shutdown, no_message_is_refused, no_message_is_refused_where_fees_overlap,
     readiness_agrees_at_rest, signatures_are_over_what_is_covered, steps_are_those_of_a_link,
+    who_has_lost_data,
 };
 pub use moves::{
     close_is_last, each_move_may_be_made, events_are_reported, moves_are_the_machines,

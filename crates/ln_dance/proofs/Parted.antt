@@ -36,7 +36,7 @@ second_holds : (b c : Bool) → c ≡ true → b || c ≡ true
 second_holds true c e = refl
 second_holds false c e = e
 
-both_hold : (b c : Bool) → b ≡ true → c ≡ true → b && c ≡ true
+pub both_hold : (b c : Bool) → b ≡ true → c ≡ true → b && c ≡ true
 both_hold true c eb ec = ec
 both_hold false c eb ec = absurd (cc)
 
@@ -54,7 +54,7 @@ waits c s a above one e = both_hold _ _ (eq-eqb (c + 1) s e) (eq-eqb s (a + 1) (
 next_after : (c s a : ℕ) → a ≤ c → c ≤ s → s ≤ a + 1 → c + 1 ≢ s + 1 → c + 1 ≡ s
 next_after c s a above below one differ = omega (arith, above, below, one, differ)
 
-serves_signature : (c s a : ℕ) → a ≤ c → c ≤ s → s ≤ a + 1 → (c + 1 == s + 1) || ((c + 1 == s) && (s == a + 1)) ≡ true
+pub serves_signature : (c s a : ℕ) → a ≤ c → c ≤ s → s ≤ a + 1 → (c + 1 == s + 1) || ((c + 1 == s) && (s == a + 1)) ≡ true
 serves_signature c s a above below one = elim (eqb_tells (c + 1) (s + 1)) [
   | inl g ↦ first_holds _ _ g.0
   | inr g ↦ second_holds _ _ (waits c s a above one (next_after c s a above below one g.1))
@@ -63,14 +63,14 @@ serves_signature c s a above below one = elim (eqb_tells (c + 1) (s + 1)) [
 one_less : (a c s : ℕ) → a ≤ c → c ≤ s → s ≤ a + 1 → a ≢ c → a + 1 ≡ c
 one_less a c s above below one differ = omega (arith, above, below, one, differ)
 
-serves_revocation : (a c s : ℕ) → a ≤ c → c ≤ s → s ≤ a + 1 → (a == c) || (a + 1 == c) ≡ true
+pub serves_revocation : (a c s : ℕ) → a ≤ c → c ≤ s → s ≤ a + 1 → (a == c) || (a + 1 == c) ≡ true
 serves_revocation a c s above below one = elim (eqb_tells a c) [
   | inl g ↦ first_holds _ _ g.0
   | inr g ↦ second_holds _ _ (eq-eqb (a + 1) c (one_less a c s above below one g.1))
 ]
 
 -- the last of n secrets is o
-abbrev IsLast : Signer → ℕ → Option (List ℕ) → Type 0
+abbrev pub IsLast : Signer → ℕ → Option (List ℕ) → Type 0
 IsLast k n o = (i : ℕ) → n ≡ i + 1 → o ≡ Some (k.secret_of i)
 
 is_told : (k : Signer) (n : ℕ) (o : Option (List ℕ)) → n ≢ 0 → IsLast k n o
@@ -79,7 +79,7 @@ is_told k n o some h =
     ap (λ p. are_same (secret_or_zeros p) (k.secret_of (n - 1))) (h (n - 1) (omega (arith, some)))
     ∙ same_as_itself (k.secret_of (n - 1))
 
-knows : (k : Signer) (n : ℕ) (o : Option (List ℕ)) → IsLast k n o
+pub knows : (k : Signer) (n : ℕ) (o : Option (List ℕ)) → IsLast k n o
     → (n == 0) || are_same (secret_or_zeros o) (k.secret_of (n - 1)) ≡ true
 knows k n o h = elim (eqb_tells n 0) [
   | inl g ↦ first_holds _ _ g.0
