@@ -1,6 +1,7 @@
 pub mod Outputs
 pub mod Ledger
 pub mod Config
+pub mod Unusual
 pub mod Opening
 pub mod Meeting
 pub mod Since

@@ -21,6 +21,7 @@ mod resume;
 mod stage;
 mod summary;
 mod taking;
+mod unusual;
 
 pub use channel::{Channel, Readiness};
 pub use command::Command;
@@ -31,3 +32,4 @@ pub use opening::{Terms, opening_is_agreed};
 pub use output::Output;
 pub use stage::named;
 pub use summary::{ChannelStatus, Summary};
+pub use unusual::Unusual;

@@ -71,14 +71,14 @@ const POLICY: Policy = Policy {
 
 const POINT: [u8; 33] = [2; 33];
 
-/// What a side asks for, here and below as scripts have it where nothing is set.
+/// What a side asks for: values that usual peers take.
 fn config(alloc: Global) -> Config {
     Config {
         limits: Limits {
             minimum: 1,
             accepted: 30,
             in_flight: 1_000_000_000_000,
-            reserve: 0,
+            reserve: 10_000,
         },
         chain_hash: [0; 32],
         dust_limit: 546,
@@ -100,7 +100,7 @@ fn config(alloc: Global) -> Config {
 
 fn fit_config(alloc: Global) -> Result<FitConfig, Refusal> {
     let config = config(alloc);
-    if config.fits() {
+    if config.fits() && config.unusual().is_none() {
         Ok(FitConfig::new(config))
     } else {
         Err(Refusal::NotReady)
@@ -120,7 +120,7 @@ fn fit_spec(alloc: Global) -> Result<FitSpec, Refusal> {
         output: 0,
         records: Records::empty(alloc),
     };
-    if spec.fits() {
+    if spec.fits() && spec.unusual().is_none() {
         Ok(FitSpec::new(spec))
     } else {
         Err(Refusal::NotReady)
