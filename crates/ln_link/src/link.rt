@@ -433,7 +433,7 @@ impl<K: ChannelKeys + Drop> Link<K> {
         }
         match self.save(alloc, store) {
             Ok(()) => refusal,
-            Err(channel_machine) => channel_machine,
+            Err(unsaved) => unsaved,
         }
     }
 
