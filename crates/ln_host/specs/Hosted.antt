@@ -1,8 +1,7 @@
 -- A link whose host brings keys, disk and sockets: what it keeps, and what a call hands to its line.
-use Rattle.std.specs.Prelude.{◌≡◌, ℕ, List, [], ◌∷◌, ◌++◌, Bool, true, false, not, Option, Some, None, Result, Ok, Err}
-use Rattle.std.specs.Prelude.{replicate, map}
+use Rattle.std.specs.Prelude.{◌≡◌, ℕ, List, [], ◌∷◌, ◌++◌, Bool, true, false, Option, Some, None, Result, Ok, Err}
+use Rattle.std.specs.Prelude.{is_some, replicate, map}
 use Rattle.std.specs.FinMap as finite
-use Rattle.ln_bytes.specs.Same.{are_same}
 use Rattle.ln_refusals.specs.declared.refusal.Refusal.{Refusal}
 use Rattle.ln_refusals.specs.declared.refusal.Refusal.TheVariants as refusal
 use Rattle.ln_hooks.specs.declared.event.ChannelEvent.{ChannelEvent}
@@ -34,8 +33,7 @@ use Rattle.ln_host.specs.Line.{Waiting, empty, with_record, with_message, with_t
 pub record Seat : Type 0 where
   pub link : State HostKeys
   pub first_point : List ℕ  -- the own per commitment point of commitment 0
-  pub records : Records  -- what the link has saved
-  pub taken : Option (List ℕ)  -- the record that the host has
+  pub records : Records  -- what the link has saved since the record that the host has
   pub signatures : Option HeldSignatures  -- the peer's, over the own commitment
   pub secrets : List PeerSecret  -- the peer's, since the record that the host has
   pub line : Waiting
@@ -47,7 +45,6 @@ hosted first_point l = record {
   link = l;
   first_point = first_point;
   records = finite.empty;
-  taken = None;
   signatures = None;
   secrets = [];
   line = empty;
@@ -62,7 +59,7 @@ keys_with first_point = record { first_point = first_point; is_right = false; se
 abbrev pub new_hosted : List ℕ → Stage → Seat
 new_hosted first_point s = hosted first_point (begun (keys_with first_point) s)
 
--- ---- what the host has saved
+-- ---- what the host hasn't saved
 
 -- the record of an end, where the store has one
 abbrev pub record_in : Option End → Records → Option (List ℕ)
@@ -73,17 +70,9 @@ record_in (Some e) rs = finite.get rs e.dance.channel
 abbrev pub record_of : Seat → Option (List ℕ)
 record_of s = record_in (saved_end s.link.stage) s.records
 
-abbrev pub is_taken : Option (List ℕ) → List ℕ → Bool
-is_taken None bytes = false
-is_taken (Some taken) bytes = are_same taken bytes
-
--- the record isn't what the host has taken
-abbrev pub is_unsaved : Option (List ℕ) → Option (List ℕ) → Bool
-is_unsaved None taken = false
-is_unsaved (Some bytes) taken = not (is_taken taken bytes)
-
+-- the host hasn't taken it
 abbrev pub waits : Seat → Bool
-waits s = is_unsaved (record_of s) s.taken
+waits s = is_some (record_of s)
 
 -- ---- what the host is shown to be saved: the record, and what the chain may need that no record has
 

@@ -15,7 +15,7 @@ ghost use Rattle.ln_host.specs.Hearing.{known, told, kept, reply_due, Replies, I
 ghost use Rattle.ln_host.specs.Hearing.{TakesUnlessMemory, IsHeard};
 ghost use Rattle.ln_host.specs.Hosted.{keys_with, hosted, new_hosted, waits, host_record, with_output, with_outputs};
 ghost use Rattle.ln_host.specs.Hosted.{WaitInPart, handed, halted, Hands, IsConnected, IsObeyed, disconnected, funded};
-ghost use Rattle.ln_host.specs.Hosted.{record_of, shown, with_events, with_link, with_pending};
+ghost use Rattle.ln_host.specs.Hosted.{shown, with_events, with_link, with_pending};
 ghost use Rattle.ln_host.specs.Line.{IsHead};
 ghost use Rattle.ln_host.specs.Seats.{seat, ComesBack, IsRefusedRecord};
 ghost use Rattle.ln_host.specs.Seen.{secret_of};
@@ -38,13 +38,13 @@ use ln_refusals::Refusal;
 use ln_store::{Listed, MemoryStore, RecordStore};
 use std::alloc::Global;
 
-/// A link whose host brings keys, disk and sockets: what it hands out waits in a line.
+/// A link whose host brings keys, disk and sockets: what it hands out waits in a line. It keeps a record only until its
+/// host has taken it.
 #[derive(Drop)]
 pub struct HostLink {
     link: Link<HostKeys>,
     first_point: [u8; 33],
     store: MemoryStore,
-    taken: Option<Bytes>,
     signatures: Option<HeldSignatures>,
     secrets: Vec<PeerSecret>,
     line: Line,
@@ -98,7 +98,6 @@ fn hosted(alloc: Global, link: Link<HostKeys>, first_point: [u8; 33]) -> HostLin
         link,
         first_point,
         store: MemoryStore::new(alloc),
-        taken: None,
         signatures: None,
         secrets: Vec::new(alloc),
         line: Line::new(alloc),
@@ -255,19 +254,13 @@ impl HostLink {
         self.link.name_funding(txid, output)
     }
 
-    // Whether the record isn't what the host has taken.
+    // Whether there is a record that the host hasn't taken.
     fn is_unsaved(&self) -> bool
         ensures { result ≡ waits (seat self.now) }
     {
         match self.machine().saved() {
             None => false,
-            Some(channel) => match self.store.find(&channel.id()) {
-                None => false,
-                Some(record) => match &self.taken {
-                    None => true,
-                    Some(taken) => taken.as_slice() != record.as_slice(),
-                },
-            },
+            Some(channel) => self.store.find(&channel.id()).is_some(),
         }
     }
 
@@ -486,7 +479,7 @@ impl HostLink {
     }
 
     /// What the host saves, whole: the record, the peer's signatures, and its secrets since the record that the host
-    /// has. 60 where there is no memory.
+    /// has. None where the host has taken the newest record; 60 where there is no memory.
     pub fn unsaved(&self, alloc: Global) -> Result<Option<HostRecord>, Refusal>
         ensures record { IfOk result (λ r. r ≡ host_record (seat self.now)) }
         ensures fails_for_memory_alone { IfErr result (λ r. r ≡ refusal.Memory) }
@@ -510,7 +503,8 @@ impl HostLink {
     /// or what was told acted on.
     ///
     /// Errors: 40 where nothing waits, or what stands first wasn't shown since the last call; 81 where a blank is
-    /// filled by too few or too many bytes, or anything else comes with an answer; 60. Nothing has changed then.
+    /// filled by too few or too many bytes, or anything else comes with an answer; 60, for a blank alone. Nothing has
+    /// changed then.
     pub fn done(&mut self, alloc: Global, answer: &[u8]) -> Result<(), HostRefusal>
         ensures does { IsDone (done_by answer.now (seat self.old)) result (seat self.old) (seat self.new) }
     {
@@ -530,25 +524,19 @@ impl HostLink {
         }
     }
 
-    // The host has saved the record. Errors: 81 where it comes with an answer, 60.
+    // The host has saved the record. Error: 81 where it comes with an answer.
     fn save_done(&mut self, alloc: Global, answer: &[u8]) -> Result<(), HostRefusal>
-        requires { self.old.line.record_waits ≡ true }
         ensures { IsDone (unanswered answer.now (record_saved (seat self.old))) result (seat self.old)
             (seat self.new) }
     {
         if !answer.is_empty() {
             return Err(HostRefusal::Answer);
         }
-        match self.copied_record(alloc) {
-            Ok(record) => {
-                put(&mut self.taken, record);
-                self.secrets.clear();
-                self.line.take_head();
-                self.is_shown = false;
-                Ok(())
-            }
-            Err(memory) => Err(HostRefusal::Refused(memory)),
-        }
+        put(&mut self.store, MemoryStore::new(alloc));
+        self.secrets.clear();
+        self.line.take_head();
+        self.is_shown = false;
+        Ok(())
     }
 
     // The first message is filled.
@@ -569,20 +557,6 @@ impl HostLink {
         self.line.take_head();
         self.is_shown = false;
         Ok(())
-    }
-
-    // The bytes of the record, where the link has one.
-    fn copied_record(&self, alloc: Global) -> Result<Option<Bytes>, Refusal>
-        ensures record { IfOk result (λ r. r ≡ record_of (seat self.now)) }
-        ensures fails_for_memory_alone { IfErr result (λ r. r ≡ refusal.Memory) }
-    {
-        match self.machine().saved() {
-            None => Ok(None),
-            Some(channel) => match self.store.find(&channel.id()) {
-                None => Ok(None),
-                Some(record) => Ok(Some(Bytes::from_slice(alloc, record.as_slice())?)),
-            },
-        }
     }
 }
 
