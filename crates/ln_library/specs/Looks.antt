@@ -3,6 +3,8 @@ use Rattle.std.specs.Prelude.{ℕ, List, [], ◌∷◌, length, ◌==◌, Option
 use Rattle.std.specs.Prelude.{if◌then◌else◌}
 use Rattle.std.specs.List.{flat_map}
 use Rattle.ln_refusals.specs.Refusal.{refusal_number}
+use Rattle.ln_refusals.specs.declared.lost_data.LostData.{LostData}
+use Rattle.ln_refusals.specs.declared.lost_data.LostData.TheVariants as lost_data
 use Rattle.ln_refusals.specs.declared.refusal.Refusal.{Refusal}
 use Rattle.ln_refusals.specs.declared.refusal.Refusal.TheVariants as refusal
 use Rattle.ln_keys.specs.declared.view.View.{View}
@@ -35,6 +37,11 @@ status_of channel.Ready = link.Ready
 status_of channel.Shut = link.Shut
 status_of (channel.Closed fee) = link.Closed fee
 status_of (channel.Failed r) = link.Failed (refusal_number r)
+
+-- whose data is lost, where the channel failed by that
+abbrev pub lost_data_of : ChannelStatus → LostData
+lost_data_of (channel.Failed (refusal.ReestablishNumber lost)) = lost
+lost_data_of s = lost_data.Unproved
 
 -- the HTLC that an update removes
 abbrev pub removed_id : Update → Option ℕ
@@ -72,6 +79,7 @@ summary_with s e l = record {
   halted = l.halted;
   channel = channel_of e;
   status = status_of s.status;
+  lost_data = lost_data_of s.status;
   numbers = numbers_of l.stage;
   own_msat = s.own;
   peer_msat = s.peer;

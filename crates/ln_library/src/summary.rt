@@ -6,13 +6,13 @@ ghost use Rattle.ln_log.specs.Log as logs;
 ghost use Rattle.ln_log.specs.Log.{Log};
 ghost use Rattle.ln_channel.specs.State.{State, StandsFor};
 ghost use Rattle.ln_host.specs.declared.keys.HostKeys.{HostKeys};
-ghost use Rattle.ln_library.specs.Looks.{status_of, kept_own, removed_id, removed_ids, channel_of, next_id_of};
+ghost use Rattle.ln_library.specs.Looks.{status_of, lost_data_of, kept_own, removed_id, removed_ids, channel_of, next_id_of};
 ghost use Rattle.ln_library.specs.Looks.{removed_of, link_summary};
 
 use ln_channel::{Channel, ChannelMachine, ChannelStatus};
 use ln_host::HostKeys;
 use ln_log::{Pair, Side, Update, UpdateLog, removal_of};
-use ln_refusals::Refusal;
+use ln_refusals::{LostData, Refusal};
 use ln_store::Listed;
 use ln_wire::{LinkStatus, LinkSummary};
 use std::alloc::Global;
@@ -26,6 +26,16 @@ fn status_of(status: ChannelStatus) -> LinkStatus
         ChannelStatus::Shut => LinkStatus::Shut,
         ChannelStatus::Closed(fee) => LinkStatus::Closed(fee),
         ChannelStatus::Failed(refusal) => LinkStatus::Failed(u64::from(refusal.number())),
+    }
+}
+
+// Whose data is lost, where the channel failed by that.
+fn lost_data_of(status: ChannelStatus) -> LostData
+    ensures { result ≡ lost_data_of status }
+{
+    match status {
+        ChannelStatus::Failed(Refusal::ReestablishNumber(lost_data)) => lost_data,
+        _ => LostData::Unproved,
     }
 }
 
@@ -104,6 +114,7 @@ pub fn summary_of(alloc: Global, machine: &ChannelMachine<HostKeys>) -> Result<L
         halted: machine.is_halted(),
         channel: channel_id(channel),
         status: status_of(summary.status),
+        lost_data: lost_data_of(summary.status),
         numbers: machine.numbers(),
         own_msat: summary.own,
         peer_msat: summary.peer,

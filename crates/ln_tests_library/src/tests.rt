@@ -6,7 +6,7 @@ use ln_hooks::ChannelEvent;
 use ln_host::{HostRecord, Question};
 use ln_keys::Role;
 use ln_log::Mark;
-use ln_refusals::Refusal;
+use ln_refusals::{LostData, Refusal};
 use ln_wire::{
     Item, LinkStatus, LinkSummary, decode_command, decode_config, decode_item, decode_question,
     decode_saved, decode_spec, decode_summary, decode_view, encode_command, encode_config,
@@ -241,7 +241,7 @@ const TOO_MUCH: [Part; 4] = [
 const SUMMARY: [Part; 7] = [
     ("020001", 1),
     ("0e", 32),
-    ("03000000000000012c", 1),
+    ("03000000000000012c02", 1),
     ("000000000000000500000000000000060000000000000004", 1),
     ("0000000000000fa000000000000013880000000000000000", 1),
     ("00000000000000070000000000000002", 1),
@@ -386,6 +386,7 @@ fn summary_is(summary: &LinkSummary) -> bool {
     summary.connection == ConnectionState::Connected
         && !summary.halted
         && summary.status == LinkStatus::Closed(300)
+        && summary.lost_data == LostData::Peer
         && (numbers.commitment, numbers.signed, numbers.revoked) == (5, 6, 4)
         && (summary.own_msat, summary.peer_msat) == (4000, 5000)
         && summary.next_own_htlc_id == 7

@@ -4,6 +4,8 @@ use Rattle.std.proofs.lemmas.Bool.{eqb-true}
 use Rattle.ln_bytes.proofs.Reading.{chosen}
 use Rattle.ln_channel.specs.declared.machine.ConnectionState.{ConnectionState}
 use Rattle.ln_channel.specs.declared.machine.ConnectionState.TheVariants as connection
+use Rattle.ln_refusals.specs.declared.lost_data.LostData.{LostData}
+use Rattle.ln_refusals.specs.declared.lost_data.LostData.TheVariants as lost_data
 use Rattle.ln_store.specs.Format.{number}
 use Rattle.ln_store.specs.Items.{no_number}
 use Rattle.ln_store.proofs.Formats.{IsLawful, number_is_lawful, fixed_is_lawful, list_is_lawful, optional_is_lawful}
@@ -12,7 +14,8 @@ use Rattle.ln_store.proofs.Laws.{numbers_are_lawful}
 use Rattle.ln_wire.specs.declared.summary.LinkStatus.{LinkStatus}
 use Rattle.ln_wire.specs.declared.summary.LinkStatus.TheVariants as status
 use Rattle.ln_wire.specs.Summary as it
-use Rattle.ln_wire.specs.Summary.{connection_number, connection_of, status_told, status_at}
+use Rattle.ln_wire.specs.Summary.{connection_number, connection_of, lost_data_number, lost_data_of}
+use Rattle.ln_wire.specs.Summary.{status_told, status_at}
 use Rattle.ln_wire.proofs.Wholes.{also, IsReadAlone, alone, ReadsKind, kind_read, no_kind, kind_or, kinds_are_lawful}
 use Rattle.ln_wire.proofs.Wholes.{made_again}
 use Rattle.ln_wire.proofs.EventLaws.{bit_is_lawful}
@@ -26,19 +29,23 @@ here x = Some x
 some_is : {A : Type 0} (x y : A) → here x ≡ here y → x ≡ y
 some_is x y e = cc
 
--- ---- the connection
+-- ---- one of three
 
-connection_back : (n : ℕ) (c : ConnectionState) → connection_of n ≡ Some c → connection_number c ≡ n
-connection_back n c e = elim (chosen (n == 0) (Some connection.Down) _ (Some c) e) [
-  | inl h ↦ ap connection_number (sym (some_is connection.Down c h.1)) ∙ sym (eqb-true n 0 h.0)
-  | inr h ↦ elim (chosen (n == 1) (Some connection.AwaitingReestablish) _ (Some c) h.1) [
-    | inl g ↦ ap connection_number (sym (some_is connection.AwaitingReestablish c g.1)) ∙ sym (eqb-true n 1 g.0)
-    | inr g ↦ elim (chosen (n == 2) (Some connection.Connected) None (Some c) g.1) [
-      | inl k ↦ ap connection_number (sym (some_is connection.Connected c k.1)) ∙ sym (eqb-true n 2 k.0)
+three_back : {A : Type 0} (number_of : A → ℕ) (x y z : A) → number_of x ≡ 0 → number_of y ≡ 1 → number_of z ≡ 2
+    → (n : ℕ) (a : A) → cond (n == 0) (Some x) (cond (n == 1) (Some y) (cond (n == 2) (Some z) None)) ≡ Some a
+    → number_of a ≡ n
+three_back number_of x y z ex ey ez n a e = elim (chosen (n == 0) (Some x) _ (Some a) e) [
+  | inl h ↦ ap number_of (sym (some_is x a h.1)) ∙ (ex ∙ sym (eqb-true n 0 h.0))
+  | inr h ↦ elim (chosen (n == 1) (Some y) _ (Some a) h.1) [
+    | inl g ↦ ap number_of (sym (some_is y a g.1)) ∙ (ey ∙ sym (eqb-true n 1 g.0))
+    | inr g ↦ elim (chosen (n == 2) (Some z) None (Some a) g.1) [
+      | inl k ↦ ap number_of (sym (some_is z a k.1)) ∙ (ez ∙ sym (eqb-true n 2 k.0))
       | inr k ↦ absurd cc
     ]
   ]
 ]
+
+-- ---- the connection
 
 connection_forth : (x y : ConnectionState) → connection_of (connection_number x) ≡ Some y → y ≡ x
 connection_forth connection.Down y e = sym (some_is connection.Down y e)
@@ -47,8 +54,23 @@ connection_forth connection.Connected y e = sym (some_is connection.Connected y 
 
 connection_is_lawful : IsLawful it.connection_form
 unfolding it.connection_form
-connection_is_lawful =
-    code_is_lawful 1 connection_number connection_of (λ n x b e. connection_back n x e) connection_forth
+connection_is_lawful = code_is_lawful 1 connection_number connection_of
+    (λ n x b e. three_back connection_number connection.Down connection.AwaitingReestablish connection.Connected refl
+    refl refl n x e)
+    connection_forth
+
+-- ---- whose data is lost
+
+lost_data_forth : (x y : LostData) → lost_data_of (lost_data_number x) ≡ Some y → y ≡ x
+lost_data_forth lost_data.Unproved y e = sym (some_is lost_data.Unproved y e)
+lost_data_forth lost_data.Own y e = sym (some_is lost_data.Own y e)
+lost_data_forth lost_data.Peer y e = sym (some_is lost_data.Peer y e)
+
+lost_data_is_lawful : IsLawful it.lost_data_form
+unfolding it.lost_data_form
+lost_data_is_lawful = code_is_lawful 1 lost_data_number lost_data_of
+    (λ n x b e. three_back lost_data_number lost_data.Unproved lost_data.Own lost_data.Peer refl refl refl n x e)
+    lost_data_forth
 
 -- ---- the status
 
@@ -86,8 +108,8 @@ status_is_lawful = kinds_are_lawful status_told status_at status_kinds status_ag
 summary_is_lawful : IsLawful it.summary
 unfolding it.summary
 summary_is_lawful = made_is_lawful _ _ _ (also connection_is_lawful (also bit_is_lawful
-    (also (optional_is_lawful _ (fixed_is_lawful 32)) (also status_is_lawful (also numbers_are_lawful (also n8 (also n8
-    (also n8 (also n8 (list_is_lawful _ n8)))))))))) (λ y. refl) (λ x. refl)
+    (also (optional_is_lawful _ (fixed_is_lawful 32)) (also status_is_lawful (also lost_data_is_lawful
+    (also numbers_are_lawful (also n8 (also n8 (also n8 (also n8 (list_is_lawful _ n8))))))))))) (λ y. refl) (λ x. refl)
 
 pub summary_is_read_alone : IsReadAlone it.summary
 summary_is_read_alone = alone it.summary summary_is_lawful

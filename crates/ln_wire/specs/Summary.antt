@@ -2,6 +2,8 @@
 use Rattle.std.specs.Prelude.{ℕ, List, ◌==◌, Option, Some, None, if◌then◌else◌}
 use Rattle.ln_channel.specs.declared.machine.ConnectionState.{ConnectionState}
 use Rattle.ln_channel.specs.declared.machine.ConnectionState.TheVariants as connection
+use Rattle.ln_refusals.specs.declared.lost_data.LostData.{LostData}
+use Rattle.ln_refusals.specs.declared.lost_data.LostData.TheVariants as lost_data
 use Rattle.ln_store.specs.Format.{Format, number, fixed, ◌&◌, list, optional, made, made_at, code}
 use Rattle.ln_store.specs.Items.{numbers, no_number}
 use Rattle.ln_wire.specs.declared.summary.LinkStatus.{LinkStatus}
@@ -43,8 +45,24 @@ status_at n bytes =
 unfoldable pub status_form : Format LinkStatus
 status_form = one_of status_told status_at
 
--- the connection, whether it halted, the channel's id, the status; the numbers of commitments; the balances of the own
--- commitment in millisatoshi, its live HTLCs, the next own HTLC's id, and the peer's HTLCs whose removal is kept
+abbrev pub lost_data_number : LostData → ℕ
+lost_data_number lost_data.Unproved = 0
+lost_data_number lost_data.Own = 1
+lost_data_number lost_data.Peer = 2
+
+abbrev pub lost_data_of : ℕ → Option LostData
+lost_data_of n =
+    if n == 0 then Some lost_data.Unproved
+    else (if n == 1 then Some lost_data.Own
+    else (if n == 2 then Some lost_data.Peer else None))
+
+-- a byte: 0 nothing is proved, 1 the own data is lost, 2 the peer's
+unfoldable pub lost_data_form : Format LostData
+lost_data_form = code 1 lost_data_number lost_data_of
+
+-- the connection, whether it halted, the channel's id, the status, whose data is lost; the numbers of commitments; the
+-- balances of the own commitment in millisatoshi, its live HTLCs, the next own HTLC's id, and the peer's HTLCs whose
+-- removal is kept
 unfoldable pub summary : Format LinkSummary
 summary =
     made (λ p. record {
@@ -52,12 +70,13 @@ summary =
       halted = p.1.0;
       channel = p.1.1.0;
       status = p.1.1.1.0;
-      numbers = p.1.1.1.1.0;
-      own_msat = p.1.1.1.1.1.0;
-      peer_msat = p.1.1.1.1.1.1.0;
-      live_htlcs = p.1.1.1.1.1.1.1.0;
-      next_own_htlc_id = p.1.1.1.1.1.1.1.1.0;
-      removed_htlc_ids = p.1.1.1.1.1.1.1.1.1;
+      lost_data = p.1.1.1.1.0;
+      numbers = p.1.1.1.1.1.0;
+      own_msat = p.1.1.1.1.1.1.0;
+      peer_msat = p.1.1.1.1.1.1.1.0;
+      live_htlcs = p.1.1.1.1.1.1.1.1.0;
+      next_own_htlc_id = p.1.1.1.1.1.1.1.1.1.0;
+      removed_htlc_ids = p.1.1.1.1.1.1.1.1.1.1;
     }) (λ s. (
       s.connection,
       (
@@ -67,12 +86,15 @@ summary =
           (
             s.status,
             (
-              s.numbers,
+              s.lost_data,
               (
-                s.own_msat,
+                s.numbers,
                 (
-                  s.peer_msat,
-                  (s.live_htlcs, (s.next_own_htlc_id, s.removed_htlc_ids)),
+                  s.own_msat,
+                  (
+                    s.peer_msat,
+                    (s.live_htlcs, (s.next_own_htlc_id, s.removed_htlc_ids)),
+                  ),
                 ),
               ),
             ),
@@ -80,5 +102,5 @@ summary =
         ),
       ),
     ))
-    (connection_form & bit & optional (fixed 32) & status_form & numbers & number 8 & number 8 & number 8 & number 8
-    & list (number 8))
+    (connection_form & bit & optional (fixed 32) & status_form & lost_data_form & numbers & number 8 & number 8
+    & number 8 & number 8 & list (number 8))

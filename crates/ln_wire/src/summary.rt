@@ -10,7 +10,7 @@ use crate::wire::Wire;
 use ln_channel::ConnectionState;
 use ln_dance::Numbers;
 use ln_log::ChannelId;
-use ln_refusals::Refusal;
+use ln_refusals::{LostData, Refusal};
 use ln_store::Listed;
 use ln_store::lists::{list_at, list_fits, optional_at, optional_fits, put_list, put_optional};
 use ln_store::stored::{Stored, put_u8, put_u64, u8_at, u64_at, u64_fits};
@@ -42,6 +42,8 @@ pub struct LinkSummary {
     pub channel: Option<ChannelId>,
     /// How far the channel is.
     pub status: LinkStatus,
+    /// Whose data is lost, where the channel failed by 34 and its peer's `channel_reestablish` proved it.
+    pub lost_data: LostData,
     /// The numbers of the own commitment, of the peer's that was signed last, and of its revocations.
     pub numbers: Numbers,
     /// The own balance in the own commitment, in millisatoshi.
@@ -89,6 +91,42 @@ fn put_connection(out: &mut Vec<u8>, connection: ConnectionState) -> Result<(), 
         ConnectionState::Down => put_u8(out, 0),
         ConnectionState::AwaitingReestablish => put_u8(out, 1),
         ConnectionState::Connected => put_u8(out, 2),
+    }
+}
+
+#[tactic(auto, unfolding(crate::specs::Summary::lost_data_form))]
+fn lost_data_at(bytes: &[u8]) -> Result<(LostData, &[u8]), Refusal>
+    ensures { Finds (λ x. (x.0, x.1.now)) result (it.lost_data_form.at bytes.now) }
+{
+    let (number, rest) = u8_at(bytes)?;
+    match number {
+        0 => Ok((LostData::Unproved, rest)),
+        1 => Ok((LostData::Own, rest)),
+        2 => Ok((LostData::Peer, rest)),
+        _ => Err(Refusal::Damaged),
+    }
+}
+
+#[tactic(auto, unfolding(crate::specs::Summary::lost_data_form))]
+fn lost_data_fits(lost_data: LostData) -> bool
+    ensures { result ≡ it.lost_data_form.fits lost_data }
+{
+    match lost_data {
+        LostData::Unproved => true,
+        LostData::Own => true,
+        LostData::Peer => true,
+    }
+}
+
+#[tactic(auto, unfolding(crate::specs::Summary::lost_data_form))]
+fn put_lost_data(out: &mut Vec<u8>, lost_data: LostData) -> Result<(), Refusal>
+    ensures appends_it { OnOk result (out.new.items ≡ out.old.items ++ it.lost_data_form.bytes lost_data) }
+    ensures fails_for_memory_alone { IfErr result (λ e. e ≡ Refusal.Memory) }
+{
+    match lost_data {
+        LostData::Unproved => put_u8(out, 0),
+        LostData::Own => put_u8(out, 1),
+        LostData::Peer => put_u8(out, 2),
     }
 }
 
@@ -145,6 +183,7 @@ impl Wire for LinkSummary {
         let (halted, rest) = bit_at(rest)?;
         let (channel, rest) = optional_at(alloc, rest)?;
         let (status, rest) = LinkStatus::read(alloc, rest)?;
+        let (lost_data, rest) = lost_data_at(rest)?;
         let (numbers, rest) = Numbers::read(alloc, rest)?;
         let (own_msat, rest) = u64_at(rest)?;
         let (peer_msat, rest) = u64_at(rest)?;
@@ -156,6 +195,7 @@ impl Wire for LinkSummary {
             halted,
             channel,
             status,
+            lost_data,
             numbers,
             own_msat,
             peer_msat,
@@ -172,6 +212,7 @@ impl Wire for LinkSummary {
             && bit_fits(self.halted)
             && optional_fits(&self.channel)
             && self.status.fits()
+            && lost_data_fits(self.lost_data)
             && self.numbers.fits()
             && u64_fits(self.own_msat)
             && u64_fits(self.peer_msat)
@@ -186,6 +227,7 @@ impl Wire for LinkSummary {
         put_bit(out, self.halted)?;
         put_optional(out, &self.channel)?;
         self.status.write(out)?;
+        put_lost_data(out, self.lost_data)?;
         self.numbers.write(out)?;
         put_u64(out, self.own_msat)?;
         put_u64(out, self.peer_msat)?;

@@ -2,18 +2,21 @@
 use Rattle.std.specs.Prelude.{◌≡◌, ℕ, ◌+◌, ◌*◌, ◌<◌, ◌≤◌, ℤ, pos, List, ◌++◌, drop, length, Result, Ok, Err}
 use Rattle.ln_refusals.specs.PeerRule.{rule_number}
 use Rattle.ln_refusals.specs.Refusal.{refusal_number}
+use Rattle.ln_refusals.specs.declared.lost_data.LostData.TheVariants as lost_data
 use Rattle.ln_refusals.specs.declared.refusal.Refusal.{Refusal}
 use Rattle.ln_refusals.specs.declared.refusal.Refusal.TheVariants as refusal
 use Rattle.ln_host.specs.declared.answer.HostRefusal.{HostRefusal}
 use Rattle.ln_host.specs.declared.answer.HostRefusal.TheVariants as host
 
--- the peer's rule, which stands in the second byte
-abbrev pub rule_of : Refusal → ℕ
-rule_of (refusal.PeerLimit rule) = rule_number rule
-rule_of r = 0
+-- what stands in the second byte: the peer's rule; or 1 where the own data is lost, 2 where the peer's is
+abbrev pub detail_of : Refusal → ℕ
+detail_of (refusal.PeerLimit rule) = rule_number rule
+detail_of (refusal.ReestablishNumber lost_data.Own) = 1
+detail_of (refusal.ReestablishNumber lost_data.Peer) = 2
+detail_of r = 0
 
 abbrev pub answer_number : Refusal → ℕ
-answer_number r = rule_of r * 256 + refusal_number r
+answer_number r = detail_of r * 256 + refusal_number r
 
 abbrev pub done_number : Result (Unit {0}) Refusal → ℕ
 done_number (Ok u) = 0

@@ -1,9 +1,9 @@
 //! The library for C: each call is one of ln_library's, on a link that C keeps by a handle, or one of ln_host_node's,
 //! on a node (node.rt).
 //!
-//! A call answers 0, or the number of what went wrong: a refusal's (the peer's rule of 44 stands in the second byte),
-//! 80
-//! `ASKS`, 81 `ANSWER`, 82 `SHORT` or 83 `HANDLE`. What C may do wrong with a pointer is answered in c/lnlink.c.
+//! A call answers 0, or the number of what went wrong: a refusal's, 80 `ASKS`, 81 `ANSWER`, 82 `SHORT` or 83 `HANDLE`.
+//! In the second byte stands the peer's rule of 44, or whose data is lost of 34. What C may do wrong with a pointer is
+//! answered in bindings/glue/lnlink.c.
 #![tactic(auto)]
 
 ghost use Rattle.std.specs.Prelude.{◌≡◌, ◌≢◌, ◌⊎◌, length, pos, IsSome, IsNone, Some, IfOk, IfErr};
@@ -16,7 +16,7 @@ mod node;
 pub use held::Held;
 pub use held_node::HeldNode;
 use ln_host::{HostLink, HostRefusal};
-use ln_refusals::Refusal;
+use ln_refusals::{LostData, Refusal};
 use std::alloc::Global;
 
 /// The buffer is too short.
@@ -25,15 +25,17 @@ const SHORT: i32 = 82;
 /// The handle holds nothing where a link is needed, or one where none may be.
 const HANDLE: i32 = 83;
 
-// The number of a refusal, and the peer's rule that 44 carries in the second byte.
+// The number of a refusal, and in the second byte the peer's rule that 44 carries, or whose data is lost by 34.
 fn code_of(refusal: Refusal) -> i32
     ensures { result ≡ pos (answer_number refusal) }
 {
-    let rule = match refusal {
+    let detail = match refusal {
         Refusal::PeerLimit(rule) => i32::from(rule.number()) * 256,
+        Refusal::ReestablishNumber(LostData::Own) => 256,
+        Refusal::ReestablishNumber(LostData::Peer) => 512,
         _ => 0,
     };
-    rule + i32::from(refusal.number())
+    detail + i32::from(refusal.number())
 }
 
 fn code(done: Result<(), Refusal>) -> i32
