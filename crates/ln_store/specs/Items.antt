@@ -1,7 +1,7 @@
 -- What is stored of one end of a channel, item by item: how each is written and read.
 use Rattle.std.specs.Prelude.{ℕ, ◌+◌, ◌*◌, ◌/◌, ◌%◌, List, [], ◌∷◌, Bool, true, false, ◌==◌, nat_lt, Option, Some, None}
 use Rattle.std.specs.Prelude.{if◌then◌else◌}
-use Rattle.ln_refusals.specs.declared.lost_data.LostData.TheVariants.{Unproved, Own, Peer}
+use Rattle.ln_refusals.specs.declared.lost_data.LostData.TheVariants as lost_data
 use Rattle.ln_refusals.specs.declared.refusal.Refusal.{Refusal}
 use Rattle.ln_refusals.specs.declared.refusal.Refusal.TheVariants as refusal
 use Rattle.ln_refusals.specs.Refusal.{refusal_number}
@@ -92,13 +92,13 @@ abbrev pub failures : List Refusal
 failures = refusal.OutOfPlace ∷ refusal.BadId ∷ refusal.AmountBelowMinimum ∷ refusal.TooManyHtlcs
     ∷ refusal.InFlightOver ∷ refusal.CannotAfford ∷ refusal.ExpiryRange ∷ refusal.NoSuchHtlc ∷ refusal.PreimageWrong
     ∷ refusal.NotFunder ∷ refusal.SignatureWrong ∷ refusal.SecretWrong ∷ refusal.NothingToRevoke
-    ∷ refusal.ReestablishNumber Unproved ∷ refusal.ReestablishNumber Own ∷ refusal.ReestablishNumber Peer
-    ∷ refusal.AddAfterShutdown ∷ refusal.PeerError ∷ []
+    ∷ refusal.ReestablishNumber lost_data.Unproved ∷ refusal.ReestablishNumber lost_data.Own
+    ∷ refusal.ReestablishNumber lost_data.Peer ∷ refusal.AddAfterShutdown ∷ refusal.PeerError ∷ []
 
 -- its number, and at 34 whose data is lost in the higher byte: 1 the own, 2 the peer's
 abbrev pub failure_code : Refusal → ℕ
-failure_code (refusal.ReestablishNumber Own) = 34 + 256
-failure_code (refusal.ReestablishNumber Peer) = 34 + 512
+failure_code (refusal.ReestablishNumber lost_data.Own) = 34 + 256
+failure_code (refusal.ReestablishNumber lost_data.Peer) = 34 + 512
 failure_code r = refusal_number r
 
 abbrev pub failure_with : ℕ → List Refusal → Option (Option Refusal)
