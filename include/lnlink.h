@@ -12,8 +12,9 @@
  * one owner or one lock for each handle. Two handles may be in calls at once.
  *
  * Answers. Each call answers 0, a refusal's number (docs/PROTOCOL.md, "Refusals"), or one of the LNL_ numbers below. By
- * LNL_PEER_LIMIT the low byte is 44, and the next byte is the rule of the peer, 7, 21 or 23 to 30. Bytes that are no
- * spec, config, command or saved record are 70 (a record's unknown version is 71); those that are no message 1 to 9.
+ * LNL_PEER_LIMIT the low byte is 44, and the next byte is the rule of the peer, 7, 21 or 23 to 30. By LNL_REESTABLISH
+ * the low byte is 34, and the next byte tells whose data is lost. Bytes that are no spec, config, command or saved
+ * record are 70 (a record's unknown version is 71); those that are no message 1 to 9.
  *
  * Saved before said. What calls make is handed out in one line: lnl_next shows its head, lnl_done takes it off. A
  * record, where there is one, stands before all else, and the newest stands for all that weren't taken off. It is saved
@@ -51,6 +52,11 @@ enum {
     LNL_SHORT = 82,      /* the buffer is too short: *n says how many bytes there are */
     LNL_HANDLE = 83      /* a null pointer, an empty handle, or a full one where an empty one is needed */
 };
+
+/* In the low byte: channel_reestablish had numbers that can't be served, and the channel has failed. The next byte
+ * tells whose data is lost, as far as it proves it: the own, so the own commitment is revoked and may not be published;
+ * or the peer's, so it may. */
+enum { LNL_REESTABLISH = 34, LNL_UNPROVED = 0, LNL_OWN_DATA = 1, LNL_PEER_DATA = 2 };
 
 enum { LNL_FUNDER = 0, LNL_FUNDEE = 1 };
 
@@ -146,8 +152,9 @@ int32_t lnl_done(lnl_link *link, const uint8_t *answer, size_t n);
 
 /* A summary: connection u8 (0 down, 1 awaits channel_reestablish, 2 connected), halted u8, optional channel 32,
  * status u8 (0 open, 1 ready, 2 shut, 3 closed, 4 failed), value u64 (the fee where closed, the refusal's number where
- * failed), commitment number u64, signed number u64, revoked number u64, own_msat u64, peer_msat u64 (of the own
- * commitment), live HTLCs u64, next own HTLC id u64, list (u64) ids of the peer's HTLCs that this side has removed. */
+ * failed), lost data u8 (where failed by 34: LNL_OWN_DATA or LNL_PEER_DATA; else 0), commitment number u64, signed
+ * number u64, revoked number u64, own_msat u64, peer_msat u64 (of the own commitment), live HTLCs u64, next own HTLC id
+ * u64, list (u64) ids of the peer's HTLCs that this side has removed. */
 int32_t lnl_look(lnl_link *link, uint8_t *out, size_t room, size_t *n);
 
 /* The view of a commitment: which = 0 the own one, 1 the peer's, 2 the one that the command Sign would sign, 3 the one

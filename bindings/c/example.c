@@ -81,7 +81,7 @@ static void report(struct end *end) {
     done(lnl_look(&end->link, s, sizeof s, &n), "look");
     at = s + 3 + (s[2] ? 32 : 0);
     printf("%s: status %d, own %llu msat, peer %llu msat\n", end->name, at[0],
-           (unsigned long long)number(at + 33, 8), (unsigned long long)number(at + 41, 8));
+           (unsigned long long)number(at + 34, 8), (unsigned long long)number(at + 42, 8));
 }
 
 static void pay(struct end *payer, struct end *payee) {

@@ -27,7 +27,7 @@ static int work(struct end *payer, struct end *payee, uint64_t payments) {
     static struct bytes told;
     static const uint8_t onion[1366];
     int worked = 0;
-    if (looked(payer, 57) < payments) { /* next_htlc_id */
+    if (looked(payer, 58) < payments) { /* next_htlc_id */
         told.n = 0;
         put_number(&told, 1, 1);
         put_number(&told, AMOUNT_MSAT, 8);
@@ -99,9 +99,9 @@ int main(void) {
     settle(&funder, &fundee);
     for (restarts = 0; restarts < 2; restarts++) {
         for (step = 0; pay_over_a_loss(&funder, &fundee, ++payments, step, restarts); step++) {
-            expect(looked(&fundee, 33) == payments * AMOUNT_MSAT, "a payment isn't paid once", (int32_t)step);
-            expect(looked(&funder, 41) == payments * AMOUNT_MSAT, "the ends differ", (int32_t)step);
-            expect(looked(&funder, 49) == 0 && looked(&fundee, 49) == 0, "an HTLC is left", (int32_t)step);
+            expect(looked(&fundee, 34) == payments * AMOUNT_MSAT, "a payment isn't paid once", (int32_t)step);
+            expect(looked(&funder, 42) == payments * AMOUNT_MSAT, "the ends differ", (int32_t)step);
+            expect(looked(&funder, 50) == 0 && looked(&fundee, 50) == 0, "an HTLC is left", (int32_t)step);
         }
         expect(step > 8, "too few steps", (int32_t)step);
     }

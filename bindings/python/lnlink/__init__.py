@@ -91,7 +91,7 @@ from .questions import (
 from .refusals import Refused
 from .routing import NodeStore, Onions, RoutingNode
 from .store import SqliteStore, Store
-from .views import Closing, Commitment, Connection, Htlc, Status, Summary, View
+from .views import Closing, Commitment, Connection, Htlc, LostData, Status, Summary, View
 
 __all__ = [
     "Add",
@@ -134,6 +134,7 @@ __all__ = [
     "Htlc",
     "Item",
     "Link",
+    "LostData",
     "Malformed",
     "MalformedMark",
     "Mark",

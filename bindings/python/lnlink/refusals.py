@@ -2,6 +2,8 @@
 
 from __future__ import annotations
 
+from .views import LostData
+
 NAMES = {
     1: "Truncated",
     2: "NotMinimal",
@@ -61,20 +63,23 @@ class Refused(Exception):
     number    the refusal's number
     name      its name
     rule      where the number is 44: the rule by which the peer would refuse, by its number; else None
+    lost_data where the number is 34: whose data is lost; else None
     messages  from `Channel`: what is to be sent to the peer even so, as an `error` or a `warning`
     """
 
-    def __init__(self, number: int, rule: int | None = None):
+    def __init__(self, number: int, rule: int | None = None, lost_data: LostData | None = None):
         self.number = number
         self.name = NAMES.get(number, "Unknown")
         self.rule = rule
+        self.lost_data = lost_data
         self.messages: list[bytes] = []
         by = "" if rule is None else f", by {rule} {NAMES.get(rule, 'Unknown')}"
-        super().__init__(f"{number} {self.name}{by}")
+        lost = f", {lost_data.name.lower()} data lost" if lost_data else ""
+        super().__init__(f"{number} {self.name}{by}{lost}")
 
 
 def check(answer: int) -> None:
     """Raises what a call of the library answers, unless that is 0."""
     if answer:
-        number = answer & 0xFF
-        raise Refused(number, answer >> 8 if number == 44 else None)
+        number, detail = answer & 0xFF, answer >> 8
+        raise Refused(number, detail if number == 44 else None, LostData(detail) if number == 34 else None)

@@ -36,6 +36,14 @@ class Status(IntEnum):
     FAILED = 4
 
 
+class LostData(IntEnum):
+    """Whose data is lost, as far as a channel_reestablish that was refused by 34 proves it."""
+
+    UNPROVED = 0
+    OWN = 1  # the own commitment is revoked, and may not be published
+    PEER = 2  # the own commitment may be published
+
+
 @dataclass(frozen=True)
 class Htlc(Packed):
     """A live HTLC of a commitment."""
@@ -78,6 +86,7 @@ class Summary(Packed):
     channel: Annotated[bytes | None, optional(Hash)]  # None while it is being opened
     status: Annotated[Status, choice(Status)]
     value: U64  # the fee in satoshi where CLOSED, the refusal's number where FAILED, else 0
+    lost_data: Annotated[LostData, choice(LostData)]  # where it failed by 34; else UNPROVED
     commitment_number: U64  # the own one
     signed_number: U64  # the peer's that was signed last
     revoked_number: U64  # how many of the peer's are revoked

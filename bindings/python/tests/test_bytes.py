@@ -34,6 +34,7 @@ from lnlink import (
     HeldSignatures,
     Htlc,
     Item,
+    LostData,
     Malformed,
     MalformedMark,
     NewQuestion,
@@ -112,13 +113,16 @@ OTHERS = [
     CLOSING,
     CONFIG,
     OpenSpec(CONFIG, 1_000_000, 0, 253, 1, A, B, 1, ((0, b"script"), (1, b"\x10"))),
-    Summary(Connection.CONNECTED, False, A, Status.READY, 0, 1, 2, 3, 4, 5, 6, 7, (8, 9)),
-    Summary(Connection.DOWN, True, None, Status.FAILED, 31, 0, 0, 0, 0, 0, 0, 0, ()),
+    Summary(Connection.CONNECTED, False, A, Status.READY, 0, LostData.UNPROVED, 1, 2, 3, 4, 5, 6, 7, (8, 9)),
+    Summary(Connection.DOWN, True, None, Status.FAILED, 34, LostData.PEER, 0, 0, 0, 0, 0, 0, 0, ()),
 ]
 
 
 def u(size: int, value: int) -> bytes:
     return value.to_bytes(size, "big")
+
+
+SEEN = b"".join(u(8, x) for x in (1, 2, 3, 4, 5, 6, 7, 2, 8, 9))
 
 
 class BytesTest(unittest.TestCase):
@@ -168,7 +172,8 @@ class BytesTest(unittest.TestCase):
             (ITEMS[2], b"\2\1\1" + u(8, 9) + P + view),
             (ITEMS[6], b"\3\0\x12\0\0\0\0"),
             (ITEMS[9], b"\4" + u(8, 2) + b"\1\1" + u(8, 0) + b"\1" + u(2, 6) + b"reason"),
-            (OTHERS[4], b"\2\0\1" + A + b"\1" + b"".join(u(8, x) for x in (0, 1, 2, 3, 4, 5, 6, 7, 2, 8, 9))),
+            (OTHERS[4], b"\2\0\1" + A + b"\1" + u(8, 0) + b"\0" + SEEN),
+            (OTHERS[5], b"\0\1\0\4" + u(8, 34) + b"\2" + bytes(64)),
         ]:
             with self.subTest(kind=type(value).__name__):
                 self.assertEqual(value.to_bytes(), expected)

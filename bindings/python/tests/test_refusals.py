@@ -25,6 +25,7 @@ from lnlink import (
     FulfilMark,
     HeldMark,
     Link,
+    LostData,
     Malformed,
     OpenSpec,
     Record,
@@ -468,7 +469,23 @@ class RefusalTest(unittest.TestCase):
         wire.b.store.save(Record.from_saved(old))
         wire.b.load()
         wire.connect()
-        self.received(wire.b, 34, wire.b.inbox.popleft())
+        for end, lost_data in ((wire.b, LostData.OWN), (wire.a, LostData.PEER)):
+            self.lost(end, lost_data, end.inbox.popleft())
+
+    def test_34_numbers_that_prove_nothing(self) -> None:
+        wire = self.wire.opened()
+        wire.restart(wire.a)
+        wire.connect()
+        wire.b.inbox.clear()
+        numbers = 2 * (9).to_bytes(8, "big")
+        self.lost(wire.b, LostData.UNPROVED, b"\0\x88" + CHANNEL + numbers + bytes(32) + wire.a.signer.point(1))
+
+    def lost(self, end: End, lost_data: LostData, reestablish: bytes) -> None:
+        """An end refuses the message by 34, and tells whose data is lost then and after a restart."""
+        refused = self.received(end, 34, reestablish)
+        self.assertEqual((refused.lost_data, end.link.summary().lost_data), (lost_data, lost_data))
+        end.load()
+        self.assertEqual(end.link.summary().lost_data, lost_data)
 
     def test_35_an_add_after_shutdown(self) -> None:
         wire = self.wire.opened()

@@ -43,4 +43,4 @@ pub use node::{HeldHtlc, Node, NodeItem, OnionFound, Settings, Verdict};
 pub use question::Question;
 pub use refused::Refused;
 pub use store::{BoxError, FileStore, Store};
-pub use view::{Closing, Commitment, Connection, Htlc, Role, Status, Summary, View};
+pub use view::{Closing, Commitment, Connection, Htlc, LostData, Role, Status, Summary, View};

@@ -3,12 +3,16 @@
 use std::error::Error;
 use std::fmt;
 
+use crate::view::LostData;
+
 macro_rules! refusals {
     ($($number:literal $name:ident $why:literal,)*) => {
         /// Why a call was refused.
         #[derive(Clone, Copy, Debug, PartialEq, Eq)]
         pub enum Refused {
             $(#[doc = $why] $name,)*
+            /// `channel_reestablish` with a number that can't be served; whose data is lost, as far as it proves it.
+            ReestablishNumber(LostData),
             /// The peer would refuse the command, by this rule: 7, 21 or 23 to 30.
             PeerLimit(u8),
             /// A number that this crate doesn't know.
@@ -21,6 +25,7 @@ macro_rules! refusals {
             pub fn number(self) -> i32 {
                 match self {
                     $(Refused::$name => $number,)*
+                    Refused::ReestablishNumber(_) => 34,
                     Refused::PeerLimit(_) => 44,
                     Refused::Unknown(number) => number,
                 }
@@ -28,10 +33,11 @@ macro_rules! refusals {
 
             /// What a call answers: `Ok` is 0.
             pub(crate) fn check(answer: i32) -> Result<(), Refused> {
-                let [rule, number] = [(answer >> 8) as u8, answer as u8];
+                let [detail, number] = [(answer >> 8) as u8, answer as u8];
                 match (number, answer) {
                     (_, 0) => Ok(()),
-                    (44, _) => Err(Refused::PeerLimit(rule)),
+                    (34, _) => Err(Refused::ReestablishNumber(LostData::of(detail))),
+                    (44, _) => Err(Refused::PeerLimit(detail)),
                     $((_, $number) => Err(Refused::$name),)*
                     _ => Err(Refused::Unknown(answer)),
                 }
@@ -64,7 +70,6 @@ refusals! {
     31 SignatureWrong "A signature doesn't fit.",
     32 SecretWrong "A per commitment secret doesn't fit.",
     33 NothingToRevoke "A revocation that answers no signature.",
-    34 ReestablishNumber "`channel_reestablish` with a number that can't be served.",
     35 AddAfterShutdown "An add after its sender's shutdown.",
     36 FeeOutside "A closing fee that can't be agreed to.",
     37 PeerError "The peer sent `error`.",

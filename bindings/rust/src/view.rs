@@ -66,6 +66,29 @@ choice! {
     }
 }
 
+choice! {
+    /// Whose data is lost, as far as a `channel_reestablish` that was refused proves it.
+    pub enum LostData {
+        /// Nothing is proved.
+        Unproved = 0,
+        /// This side's: its commitment is revoked, and may not be published.
+        Own = 1,
+        /// The peer's: this side may publish its commitment.
+        Peer = 2,
+    }
+}
+
+impl LostData {
+    /// By the byte of an answer.
+    pub(crate) fn of(detail: u8) -> LostData {
+        match detail {
+            1 => LostData::Own,
+            2 => LostData::Peer,
+            _ => LostData::Unproved,
+        }
+    }
+}
+
 packed! {
     /// A live HTLC of a commitment.
     pub struct Htlc {
@@ -127,6 +150,8 @@ packed! {
         status: Status,
         /// The fee in satoshi where `Closed`, the refusal's number where `Failed`, else 0.
         value: u64,
+        /// Where it failed by 34; else `Unproved`.
+        lost_data: LostData,
         /// The number of the own commitment.
         commitment_number: u64,
         /// The number of the peer's that was signed last.

@@ -6,8 +6,8 @@ use common::secp256k1::Curve;
 use common::sha256::sha256;
 use common::signer::generate_from_seed;
 use lnlink::{
-    channel_id, short_channel_id, Blank, Command, Commitment, Event, HeldSignatures, How, Htlc, Item, Malformed, Mark,
-    Question, Record, Role, View, Wire,
+    channel_id, short_channel_id, Blank, Command, Commitment, Connection, Event, HeldSignatures, How, Htlc, Item,
+    LostData, Malformed, Mark, Question, Record, Role, Status, Summary, View, Wire,
 };
 
 const A: [u8; 32] = [0xa1; 32];
@@ -75,6 +75,24 @@ fn values() {
     assert_eq!(Item::from_bytes(&[6]), Err(Malformed));
     assert_eq!(Command::from_bytes(&[11]), Err(Malformed));
     assert_eq!(Commitment::from_bytes(&[4]), Err(Malformed));
+    let summary = Summary {
+        connection: Connection::Down,
+        halted: true,
+        channel: None,
+        status: Status::Failed,
+        value: 34,
+        lost_data: LostData::Own,
+        commitment_number: 1,
+        signed_number: 2,
+        revoked_number: 3,
+        own_msat: 4,
+        peer_msat: 5,
+        live_htlcs: 6,
+        next_htlc_id: 7,
+        removed_htlcs: vec![8],
+    };
+    let seen: Vec<u8> = [1, 2, 3, 4, 5, 6, 7, 1, 8].into_iter().flat_map(|number| u(8, number)).collect();
+    is(&summary, &[vec![0, 1, 0, 4], u(8, 34), vec![1], seen]);
 }
 
 #[test]

@@ -4,7 +4,7 @@
 mod common;
 
 use common::ends::{add, channel, Break, Wire};
-use lnlink::{Channel, Command, Commitment, Error, Event, Record, Refused, Signer, Status, Store, Wire as _};
+use lnlink::{Channel, Command, Commitment, Error, Event, LostData, Record, Refused, Signer, Status, Store, Wire as _};
 use std::fs::OpenOptions;
 use std::io::Write;
 
@@ -174,6 +174,28 @@ fn a_wrong_signature_fails_the_channel() {
     wire.ends[1].load();
     let summary = wire.ends[1].channel().summary().unwrap();
     assert_eq!((summary.status, summary.value), (Status::Failed, 31));
+}
+
+#[test]
+fn a_channel_that_was_rolled_back_tells_whose_data_is_lost() {
+    let mut wire = Wire::opened();
+    let old = wire.ends[1].disk().load(&channel()).unwrap().unwrap();
+    wire.ends[0].to_pay = 3;
+    wire.run(ALL).unwrap();
+    wire.cut(&[]);
+    wire.ends[1].disk().save(&Record::from_bytes(&old).unwrap()).unwrap();
+    wire.ends[1].load();
+    wire.connect();
+    for (at, lost_data) in [(1, LostData::Own), (0, LostData::Peer)] {
+        let reestablish = wire.ends[at].inbox.pop_front().unwrap();
+        let Err(Error::Refused(refused, _)) = wire.ends[at].channel().receive(&reestablish) else {
+            panic!("an old record is served");
+        };
+        assert_eq!(refused, Refused::ReestablishNumber(lost_data));
+        wire.ends[at].load();
+        let summary = wire.ends[at].channel().summary().unwrap();
+        assert_eq!((summary.status, summary.value, summary.lost_data), (Status::Failed, 34, lost_data));
+    }
 }
 
 #[test]
