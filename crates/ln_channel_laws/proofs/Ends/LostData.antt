@@ -18,9 +18,10 @@ use Rattle.ln_dance.proofs.Parted.{both_hold, serves_signature, serves_revocatio
 use Rattle.ln_channel.specs.declared.config.Config.{Config}
 use Rattle.ln_channel.specs.declared.config.OpenSpec.{OpenSpec}
 use Rattle.ln_channel.specs.declared.opening.Opened.{Opened}
+use Rattle.ln_channel.specs.End.{End}
 use Rattle.ln_channel.specs.Meeting.{Opens}
 use Rattle.ln_channel_laws.specs.Ends.{Ends, turned, Step, opened, run}
-use Rattle.ln_channel_laws.specs.LostData.{TellsWhoLost, BothTellWhoLost, AtMostPeerLost, refused_of}
+use Rattle.ln_channel_laws.specs.LostData.{TellsWhoLost, BothTellWhoLost, AtMostPeerLost, refused_of, loaded}
 use Rattle.ln_channel_laws.proofs.Ends.Breaks.{keeps_up}
 use Rattle.ln_channel_laws.proofs.Ends.JustOpened.{opened_holds}
 use Rattle.ln_channel_laws.proofs.Ends.Numbers.{BothGrow, numbers_grow}
@@ -28,7 +29,7 @@ use Rattle.ln_channel_laws.proofs.Ends.Runs.{Sound, flipped, ran}
 
 -- ---- what is refused, by four tests
 
-fault_by : Bool → Bool → Bool → Bool → Option Refusal
+abbrev fault_by : Bool → Bool → Bool → Bool → Option Refusal
 fault_by served known later earlier = cond served (cond known None (Some refusal.SecretWrong))
     (Some (refusal.ReestablishNumber (cond ((later || earlier) && known) (cond later Own Peer) Unproved)))
 
@@ -52,7 +53,7 @@ neither true c e f = absurd (cc)
 neither false c e f = f
 
 differ : (m n : ℕ) → m ≢ n → (m == n) ≡ false
-differ m n no = elim (eqb_tells m n) [ inl g ↦ absurd (no g.1) | inr g ↦ g.0 ]
+differ m n other = elim (eqb_tells m n) [ inl g ↦ absurd (other g.1) | inr g ↦ g.0 ]
 
 above : (m n : ℕ) → n < m → nat_le m n ≡ false
 above m n more = elim (leb_tells m n) [ inl g ↦ absurd (omega (arith, more, g.1)) | inr g ↦ g.0 ]
@@ -168,6 +169,23 @@ parted a b p h = record {
   back = keeps_up b a p.y p.x h.hold.kept.back.phase h.hold.y_knows;
 }
 
+-- what a record leaves out changes none of it
+loaded_parted : (a b : Signer) (x y : End) → HaveParted a b x.dance y.dance → HaveParted a b (loaded x) y.dance
+loaded_parted a b x y h = record {
+  there = record {
+    revoked = h.there.revoked;
+    accepted = h.there.accepted;
+    one_unrevoked = h.there.one_unrevoked;
+    secret = h.there.secret;
+  };
+  back = record {
+    revoked = h.back.revoked;
+    accepted = h.back.accepted;
+    one_unrevoked = h.back.one_unrevoked;
+    secret = h.back.secret;
+  };
+}
+
 turned_parted : (a b : Signer) (x y : Dancer) → HaveParted a b x y → HaveParted b a y x
 turned_parted a b x y h = record { there = h.back; back = h.there }
 
@@ -184,9 +202,10 @@ tell a b p q h k g =
     let before = parted a b p h in
     let now = parted a b q k in
     record {
-      x = tells a b p.x.dance p.y.dance q.x.dance q.y.dance before now g.x.commitment g.x.revoked g.y.commitment
-          g.y.revoked (within a b q k);
-      y = tells b a p.y.dance p.x.dance q.y.dance q.x.dance (turned_parted a b p.x.dance p.y.dance before)
+      x = tells a b (loaded p.x) p.y.dance q.x.dance q.y.dance (loaded_parted a b p.x p.y before) now g.x.commitment
+          g.x.revoked g.y.commitment g.y.revoked (within a b q k);
+      y = tells b a (loaded p.y) p.x.dance q.y.dance q.x.dance
+          (loaded_parted b a p.y p.x (turned_parted a b p.x.dance p.y.dance before))
           (turned_parted a b q.x.dance q.y.dance now) g.y.commitment g.y.revoked g.x.commitment g.x.revoked
           (within b a (turned q) (flipped a b q k));
     }

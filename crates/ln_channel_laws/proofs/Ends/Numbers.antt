@@ -1,5 +1,6 @@
 -- Over every list of steps the numbers of either end's commitments and revocations only grow.
-use Rattle.std.proofs.Common.{◌≡◌, ℕ, ◌≤◌, refl, sym, subst, arith, Bool, true, false, cond, not, Option, Some, None}
+use Rattle.std.proofs.Common.{◌≡◌, ℕ, ◌≤◌, refl, sym, subst, arith, Bool, true, false, cond, not, ◌||◌, Option, Some}
+use Rattle.std.proofs.Common.{None}
 use Rattle.std.proofs.Common.{List, [], ◌∷◌, Result, Ok, Err}
 use Rattle.ln_bytes.specs.Same.{are_same}
 use Rattle.ln_msgs.specs.declared.messages.message.Message.{Message}
@@ -14,7 +15,8 @@ use Rattle.ln_keys.specs.Signer.{Signer}
 use Rattle.ln_log.specs.declared.update.Update.{Update}
 use Rattle.ln_log.specs.declared.update.Update.TheVariants as update
 use Rattle.ln_log.specs.Updates.{next_id}
-use Rattle.ln_dance.specs.Dance.{learn_fault}
+use Rattle.ln_dance.specs.declared.dance.Numbers.{Numbers}
+use Rattle.ln_dance.specs.Dance.{learn_fault, with_next_point}
 use Rattle.ln_dance.specs.Messages.{add_of, fulfil_of, fail_of, malformed_of, fee_of, update_message}
 use Rattle.ln_dance.specs.Resume.{resume_fault}
 use Rattle.ln_close.specs.declared.closing.FeeAnswer.{FeeAnswer}
@@ -37,10 +39,13 @@ use Rattle.ln_channel.specs.Step.{faulted, line_fault}
 use Rattle.ln_channel_laws.specs.Ends.{Ends, turned, message_at, command_at, answers, delivers, Act, Deliver, Give, Note}
 use Rattle.ln_channel_laws.specs.Ends.{Lose, Cut, Save, still_come, acts, connects, Step, By, Connect, happens, run}
 
+pub record AreFurther (m n : Numbers) : Type 0 where
+  pub commitment : m.commitment ≤ n.commitment
+  pub revoked : m.revoked ≤ n.revoked
+
 -- n is what has become of e
-pub record Grows (e n : End) : Type 0 where
-  pub commitment : e.dance.numbers.commitment ≤ n.dance.numbers.commitment
-  pub revoked : e.dance.numbers.revoked ≤ n.dance.numbers.revoked
+abbrev pub Grows : End → End → Type 0
+Grows e n = AreFurther e.dance.numbers n.dance.numbers
 
 same : (e : End) → Grows e e
 same e = record { commitment = omega arith; revoked = omega arith }
@@ -88,7 +93,18 @@ completed_so keys o (Err r) h = tt
 -- ---- a message
 
 ready_so : (m : ChannelReady) (e : End) → Grows e (takes_ready m e)
-ready_so m e = either _ e e _ (same e) (record { commitment = omega arith; revoked = omega arith })
+ready_so m e = by (e.readiness.ready_received || is_closed e)
+  where
+    by : (b : Bool) → Grows e (cond b e (record e {
+      readiness = record {
+        short_id = e.readiness.short_id;
+        ready_sent = e.readiness.ready_sent;
+        ready_received = true;
+      };
+      dance = with_next_point m.second_point e.dance;
+    }))
+    by true = same e
+    by false = same e
 
 update_so : (u : Update) (e : End) → GrowsBy e (update_row u e)
 update_so u e = unless_so e (update_fault e u) (quiet (takes u e)) (same e)
