@@ -429,16 +429,26 @@ async def with_history(role):
     return s, old
 
 
+def lost_data(s):
+    """Whose data is lost, by what the refusal and a summary say; our host sees it after a restart, too."""
+    assert ('channel_reestablish', 34) in s.host.refusals
+    told, seen = s.host.lost_data, s.host.link.look()
+    assert (seen.status, seen.value, seen.lost_data) == (lnlink.Status.FAILED, 34, told)
+    s.host.restart()
+    assert s.host.link.look().lost_data == told
+    return told
+
+
 @case
 async def old_record_of_ours(role):
-    """We come up with an old record: 34. Our host sees it in the secret and publishes nothing, Electrum closes."""
+    """We come up with an old record: 34, our data is lost. Our host publishes nothing, Electrum closes."""
     s, (old, _) = await with_history(role)
     newest = s.chan.get_latest_commitment(LOCAL).txid()
     await s.lose()
     s.restart(old)
     await s.meet_again()
     await s.settle()
-    assert ('channel_reestablish', 34) in s.host.refusals and s.host.lost_data
+    assert lost_data(s) == lnlink.LostData.OWN
     assert s.host.disk.signatures.number in s.ledger.revealed       # so it may not be published
     assert [(why, tx.txid()) for why, tx in s.broadcast()] == [('force-close', newest)]
     assert s.chan.get_oldest_unrevoked_ctn(LOCAL) == s.chan.get_latest_ctn(LOCAL)
@@ -448,14 +458,14 @@ async def old_record_of_ours(role):
 
 @case
 async def old_record_of_electrum(role):
-    """Electrum comes up with an old record: refused 34, it publishes nothing; our host can, by what its disk has."""
+    """Electrum comes up with an old record: 34, its data is lost. It publishes nothing; our host can."""
     s, (_, old) = await with_history(role)
     newest = s.chan.get_latest_commitment(REMOTE).txid()
     await s.lose()
     s.restart_electrum(old)
     await s.meet_again()
     await s.settle()
-    assert ('channel_reestablish', 34) in s.host.refusals and not s.host.lost_data
+    assert lost_data(s) == lnlink.LostData.PEER
     assert not s.broadcast() and s.chan.get_state() == ChannelState.WE_ARE_TOXIC, s.chan.get_state()
     assert s.host.disk.signatures.number not in s.ledger.revealed
     assert s.host.own_commitment().txid() == newest

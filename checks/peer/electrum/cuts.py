@@ -1,4 +1,5 @@
 """The connection is cut after each message of a dance with adds and a fee, and of a closing, restarts or not."""
+import lnlink
 from cases import closed, closed_by_electrum_alone, ready, restart, speaks_last, unhurt
 from electrum.lnchannel import ChannelState
 from electrum.lnutil import LOCAL
@@ -120,7 +121,7 @@ async def every_old_record(role):
         await s.meet_again()
         await s.settle()
         lost = s.host.disk.signatures.number in s.ledger.revealed
-        assert s.host.lost_data == lost, 'the host is wrong about whether it may publish'
+        assert (s.host.lost_data == lnlink.LostData.OWN) == lost, 'the link is wrong about whether its host may publish'
         if s.host.refusals:
             assert s.host.refusals == [('channel_reestablish', 34)], s.host.refusals
             assert [tx.txid() for _, tx in s.broadcast()] in ([], [newest])

@@ -101,7 +101,7 @@ class Host:
         self.hold = False               # whether HTLCs that come in are marked as held
         self.closed = None              # the closing fee
         self.closing_tx = None          # the last closing transaction that the peer has signed, complete
-        self.lost_data = False          # whether the peer has shown that this side's record is an old one
+        self.lost_data = None           # whose data is lost, where a channel_reestablish was refused by 34
         self.crash_after = None         # how many items of the line are taken before a crash
         self.new_keys()
 
@@ -151,6 +151,8 @@ class Host:
             step(*given)
         except lnlink.Refused as refused:
             number = refused.number
+            if name == 'channel_reestablish':
+                self.lost_data = refused.lost_data
             if not (name == 'Sign' and number in LATER):
                 self.refusals.append((name, number))
         self.drain()
@@ -177,8 +179,6 @@ class Host:
                 self.fund()
         elif name == 'funding_created':
             self.learn_funding(message['funding_txid'][::-1].hex(), message['funding_output_index'])
-        elif name == 'channel_reestablish':
-            self.look_for_lost_data(message)
         question = self.link.question(raw)
         answer = b'' if question is None else self.answer(question, message)
         number = self.call(name, self.link.message, raw, answer)
@@ -195,13 +195,6 @@ class Host:
         txid, index = self.pay(self.keys.funding_address(), self.keys.funding_sat)
         self.learn_funding(txid, index)
         self.link.fund(bfh(txid)[::-1], index)
-
-    def look_for_lost_data(self, message):
-        """Whether the peer knows a secret of this side that its record says wasn't given out yet."""
-        told = message['next_revocation_number']
-        number = self.link.look().commitment_number
-        if told > number and message['your_last_per_commitment_secret'] == self.keys.secret(told - 1):
-            self.lost_data = True
 
     # ---- questions and blanks
 
