@@ -1,5 +1,5 @@
 -- What a host does with what stands first, by what it was shown.
-use Rattle.std.proofs.Common.{◌≡◌, ℕ, Bool, true, false, not, ◌&&◌, List, [], ◌∷◌, Option, Some, None, Result, Err}
+use Rattle.std.proofs.Common.{◌≡◌, ℕ, Bool, true, false, ◌||◌, List, [], ◌∷◌, Option, Some, None, Result, Err}
 use Rattle.std.proofs.Common.{refl, sym, ap, ◌∙◌, cond, is_some}
 use Rattle.ln_refusals.specs.declared.refusal.Refusal.TheVariants as refusal
 use Rattle.ln_host.specs.declared.answer.HostRefusal.{HostRefusal}
@@ -13,7 +13,7 @@ use Rattle.ln_host.specs.Blank.{filling_at}
 use Rattle.ln_host.specs.Doing.{unanswered, filled_by, message_done, told_done, first_done, head_done, done_by}
 use Rattle.ln_host.specs.Doing.{taken_off, record_saved}
 use Rattle.ln_host.specs.Hosted.{Seat}
-use Rattle.ln_host.specs.Line.{IsMessageHead, IsToldHead, IsFirst, IsRecordHead, IsHeadOf, IsHead, is_blank_first}
+use Rattle.ln_host.specs.Line.{IsMessageHead, IsToldHead, IsFirst, IsHeadOf, IsHead, is_blank_first}
 
 abbrev pub shown_done : Option Head → List ℕ → Seat → Result Seat HostRefusal
 shown_done None answer s = Err (host.Refused refusal.NotReady)
@@ -77,6 +77,20 @@ done_is h answer s e i =
 
 -- ---- what takes memory
 
+no_record_head : (m : Outgoing) (o : Option Blank) → IsMessageHead m o head.Record → ⊥
+no_record_head m None h = h
+no_record_head m (Some b) h = h
+
+no_record_told : (ts : List Told) → IsToldHead ts (Some head.Record) → ⊥
+no_record_told [] h = h
+no_record_told (t ∷ ts) h = h
+
+pub record_waits_first : (b : Bool) (ms : List Outgoing) (ts : List Told) → IsHeadOf b ms ts (Some head.Record)
+    → b ≡ true
+record_waits_first true ms ts h = refl
+record_waits_first false [] ts h = absurd (no_record_told ts h)
+record_waits_first false (m ∷ ms) ts h = absurd (no_record_head m m.blank h)
+
 abbrev IsBlank : Head → Type 0
 IsBlank head.Record = ⊥
 IsBlank (head.Blank b) = Unit {0}
@@ -97,14 +111,8 @@ no_blank_told (t ∷ ts) (head.Blank x) b i = i
 no_blank_told ts (head.Send x) b i = absurd b
 no_blank_told ts (head.Told x) b i = absurd b
 
-no_blank_record : (h : Head) → IsBlank h → IsRecordHead (Some h) → ⊥
-no_blank_record head.Record b i = b
-no_blank_record (head.Blank x) b i = i
-no_blank_record (head.Send x) b i = b
-no_blank_record (head.Told x) b i = b
-
 pub blank_takes_memory : (b : Bool) (ms : List Outgoing) (ts : List Told) (h : Head) → IsBlank h
-    → IsHeadOf b ms ts (Some h) → (not b && is_blank_first ms) ≡ true
-blank_takes_memory true ms ts h k i = absurd (no_blank_record h k i)
+    → IsHeadOf b ms ts (Some h) → (b || is_blank_first ms) ≡ true
+blank_takes_memory true ms ts h k i = refl
 blank_takes_memory false [] ts h k i = absurd (no_blank_told ts h k i)
 blank_takes_memory false (m ∷ ms) ts h k i = blank_there m m.blank h k i

@@ -1,5 +1,5 @@
 -- The record of a hosted link stands first wherever the host hasn't taken it.
-use Rattle.std.proofs.Common.{◌≡◌, ℕ, Bool, true, false, List, [], ◌∷◌, length, ◌==◌, Option, Some, None, is_some}
+use Rattle.std.proofs.Common.{◌≡◌, ℕ, Bool, true, false, List, [], ◌∷◌, length, ◌==◌, Option, Some, None}
 use Rattle.std.proofs.Common.{Result, Ok, Err, refl, sym, ap, subst, ◌∙◌, inl, inr, cond}
 use Rattle.std.specs.FinMap as finite
 use Rattle.ln_refusals.specs.declared.refusal.Refusal.{Refusal}
@@ -32,14 +32,18 @@ use Rattle.ln_host.specs.Doing.{taken_off, record_saved}
 use Rattle.ln_host.specs.Greeting.{channel_of}
 use Rattle.ln_host.specs.Hearing.{Replies, reply_due, Heard, IsTaken, TakesUnlessMemory, ByAnswer, with_reply, kept}
 use Rattle.ln_host.specs.Hearing as hearing
-use Rattle.ln_host.specs.Hosted.{Seat, record_in, waits, handed, halted, with_output, with_outputs, Hands}
-use Rattle.ln_host.specs.Hosted.{Passes, with_link, disconnected, funded}
+use Rattle.ln_host.specs.Hosted.{Seat, record_in, record_of, is_unsaved, waits, kept_while, handed, halted, with_output}
+use Rattle.ln_host.specs.Hosted.{with_outputs, Hands, Passes, with_link, disconnected, funded}
 use Rattle.ln_host.specs.Line.{Waiting, covered_by, with_record}
 use Rattle.ln_host.specs.Question.{question_of}
 use Rattle.ln_host.specs.Seen.{seen_in}
 
 IsFirst : Seat → Type 0
 IsFirst s = waits s ≡ true → s.line.record_waits ≡ true
+
+not_both : (b : Bool) (A : Type 0) → b ≡ false → b ≡ true → A
+not_both true A e f = absurd cc
+not_both false A e f = absurd cc
 
 -- ---- where nothing was saved since, no record waits
 
@@ -48,8 +52,15 @@ none_in None rs e = refl
 none_in (Some x) rs e =
     ap (λ (r : Records). finite.get r x.dance.channel) e ∙ finite.get-empty _ x.dance.channel
 
-none_waits : (o : Option End) (rs : Records) → rs ≡ finite.empty → is_some (record_in o rs) ≡ false
-none_waits o rs e = ap (λ (r : Option (List ℕ)). is_some r) (none_in o rs e)
+none_waits : (o : Option End) (rs : Records) (taken : Option (List ℕ)) → rs ≡ finite.empty
+    → is_unsaved (record_in o rs) taken ≡ false
+none_waits o rs taken e = ap (λ (r : Option (List ℕ)). is_unsaved r taken) (none_in o rs e)
+
+kept_waits : (b : Bool) (o : Option End) (rs : Records) (taken : Option (List ℕ))
+    → is_unsaved (record_in o (kept_while b rs)) taken ≡ true → b ≡ true
+kept_waits true o rs taken w = refl
+kept_waits false o rs taken w =
+    not_both (is_unsaved (record_in o finite.empty) taken) _ (none_waits o finite.empty taken refl) w
 
 -- ---- a lost connection, and another funding, leave the record that there is
 
@@ -96,11 +107,11 @@ handed_first : (os : List Output) (s : Seat) → IsFirst (handed os s)
 unfolding IsFirst
 handed_first os s = λ w.
     outputs_record s.link.stage os (with_record (waits s) s.line)
-    ∙ ap (λ (b : Bool). covered_by b s.line.record_waits) w
+    ∙ kept_waits (covered_by (waits s) s.line.record_waits) (saved_end s.link.stage) s.records s.taken w
 
 halted_first : (s : Seat) → IsFirst s → IsFirst (halted s)
 unfolding IsFirst
-halted_first s f = λ w. f (ap (λ (o : Option (List ℕ)). is_some o) (sym (of_drops s.link s.records)) ∙ w)
+halted_first s f = λ w. f (ap (λ (o : Option (List ℕ)). is_unsaved o s.taken) (sym (of_drops s.link s.records)) ∙ w)
 
 to_first : (s new : Seat) → new ≡ s → IsFirst s → IsFirst new
 to_first s new e f = subst (λ (x : Seat). IsFirst x) (sym e) f
@@ -146,14 +157,10 @@ answered_first m x (Err e) result old new h f = to_first old new h.0 f
 
 -- ---- what is dealt with
 
-not_both : (b : Bool) (A : Type 0) → b ≡ false → b ≡ true → A
-not_both true A e f = absurd cc
-not_both false A e f = absurd cc
-
 saved_first : (s : Seat) → IsFirst (record_saved s)
 unfolding IsFirst
 saved_first s = λ w.
-    not_both (waits (record_saved s)) _ (none_waits (saved_end s.link.stage) finite.empty refl) w
+    not_both (waits (record_saved s)) _ (none_waits (saved_end s.link.stage) finite.empty (record_of s) refl) w
 
 abbrev done_so : Seat → Result Seat HostRefusal
 done_so s = Ok s
@@ -213,12 +220,12 @@ done_first answer (Err e) old new h f = to_first old new h.0 f
 
 dropped_first : (s : Seat) → IsFirst s → IsFirst (disconnected s)
 unfolding IsFirst
-dropped_first s f = λ w. f (ap (λ (o : Option (List ℕ)). is_some o) (sym (of_drops s.link s.records)) ∙ w)
+dropped_first s f = λ w. f (ap (λ (o : Option (List ℕ)). is_unsaved o s.taken) (sym (of_drops s.link s.records)) ∙ w)
 
 funded_first : (txid : List ℕ) (n : ℕ) (s : Seat) → IsFirst s → IsFirst (funded txid n s)
 unfolding IsFirst
 funded_first txid n s f = λ w.
-    f (ap (λ (o : Option End). is_some (record_in o s.records)) (sym (of_named txid n s.link.stage)) ∙ w)
+    f (ap (λ (o : Option End). is_unsaved (record_in o s.records) s.taken) (sym (of_named txid n s.link.stage)) ∙ w)
 
 happens_first : (h : HostCall) (old new : Seat) → Happens h old new → IsFirst old → IsFirst new
 unfolding IsFirst
@@ -240,7 +247,7 @@ runs_first (h ∷ hs) old new x f = runs_first hs x.0 new x.2 (happens_first h o
 begun_first : (s : Seat) → IsBegun s → IsFirst s
 unfolding IsFirst
 begun_first s b = λ w.
-    not_both (waits s) _ (none_waits (saved_end s.link.stage) s.records b.records) w
+    not_both (waits s) _ (none_waits (saved_end s.link.stage) s.records s.taken b.records) w
 
 pub records_of_runs : (hs : List HostCall) (old new : Seat) → IsBegun old → Runs hs old new → waits new ≡ true
     → new.line.record_waits ≡ true

@@ -1,5 +1,5 @@
 -- What stands first in the line of a link is dealt with by its host.
-use Rattle.std.specs.Prelude.{◌≡◌, ◌⊎◌, ℕ, List, [], ◌∷◌, length, ◌==◌, Bool, true, false, not, ◌&&◌}
+use Rattle.std.specs.Prelude.{◌≡◌, ◌⊎◌, ℕ, List, [], ◌∷◌, length, ◌==◌, Bool, true, false, ◌||◌}
 use Rattle.std.specs.Prelude.{Option, Some, None, Result, Ok, Err, if◌then◌else◌}
 use Rattle.std.specs.FinMap as finite
 use Rattle.ln_refusals.specs.declared.refusal.Refusal.TheVariants as refusal
@@ -10,7 +10,7 @@ use Rattle.ln_host.specs.declared.filling.Filling.{Filling}
 use Rattle.ln_host.specs.declared.line.Outgoing.{Outgoing}
 use Rattle.ln_host.specs.declared.line.Told.{Told}
 use Rattle.ln_host.specs.Blank.{filling_at}
-use Rattle.ln_host.specs.Hosted.{Seat}
+use Rattle.ln_host.specs.Hosted.{Seat, record_of}
 use Rattle.ln_host.specs.Line.{Waiting, without_head, first_filled, is_blank_first}
 
 -- what stands first after it wasn't shown yet
@@ -21,9 +21,9 @@ with_line w s = record s { line = w; is_shown = false }
 abbrev pub taken_off : Seat → Seat
 taken_off s = with_line (without_head s.line) s
 
--- the host has the record, and the secrets that came before it
+-- the record is what the host has, with the secrets that came before it
 abbrev pub record_saved : Seat → Seat
-record_saved s = record (taken_off s) { records = finite.empty; secrets = [] }
+record_saved s = record (taken_off s) { records = finite.empty; taken = record_of s; secrets = [] }
 
 -- it has no blank, so it takes no answer: 81
 abbrev pub unanswered : List ℕ → Seat → Result Seat HostRefusal
@@ -57,11 +57,11 @@ head_done answer s =
 abbrev pub done_by : List ℕ → Seat → Result Seat HostRefusal
 done_by answer s = if s.is_shown then head_done answer s else Err (host.Refused refusal.NotReady)
 
--- a filling is kept
+-- a record or a filling is kept
 abbrev pub takes_memory : Waiting → Bool
-takes_memory w = not w.record_waits && is_blank_first w.messages
+takes_memory w = w.record_waits || is_blank_first w.messages
 
--- refused, nothing has changed; a filling may want memory
+-- refused, nothing has changed; a record or a filling may want memory
 abbrev pub IsDone : Result Seat HostRefusal → Result (Unit {0}) HostRefusal → Seat → Seat → Type 0
 IsDone done (Ok u) old new = done ≡ Ok new
 IsDone done (Err e) old new =

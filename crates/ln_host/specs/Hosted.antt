@@ -1,7 +1,8 @@
 -- A link whose host brings keys, disk and sockets: what it keeps, and what a call hands to its line.
-use Rattle.std.specs.Prelude.{◌≡◌, ℕ, List, [], ◌∷◌, ◌++◌, Bool, true, false, Option, Some, None, Result, Ok, Err}
-use Rattle.std.specs.Prelude.{is_some, replicate, map}
+use Rattle.std.specs.Prelude.{◌≡◌, ℕ, List, [], ◌∷◌, ◌++◌, Bool, true, false, not, Option, Some, None, Result, Ok, Err}
+use Rattle.std.specs.Prelude.{replicate, map}
 use Rattle.std.specs.FinMap as finite
+use Rattle.ln_bytes.specs.Same.{are_same}
 use Rattle.ln_refusals.specs.declared.refusal.Refusal.{Refusal}
 use Rattle.ln_refusals.specs.declared.refusal.Refusal.TheVariants as refusal
 use Rattle.ln_hooks.specs.declared.event.ChannelEvent.{ChannelEvent}
@@ -25,7 +26,7 @@ use Rattle.ln_host.specs.declared.record.HostRecord.{HostRecord}
 use Rattle.ln_host.specs.declared.record.PeerSecret.{PeerSecret}
 use Rattle.ln_host.specs.Keys.{host_signer}
 use Rattle.ln_host.specs.Blank.{blank_of}
-use Rattle.ln_host.specs.Line.{Waiting, empty, with_record, with_message, with_told, lost}
+use Rattle.ln_host.specs.Line.{Waiting, empty, covered_by, with_record, with_message, with_told, lost}
 
 -- ---- what it keeps
 
@@ -34,6 +35,7 @@ pub record Seat : Type 0 where
   pub link : State HostKeys
   pub first_point : List ℕ  -- the own per commitment point of commitment 0
   pub records : Records  -- what the link has saved since the record that the host has
+  pub taken : Option (List ℕ)  -- the record that the host has
   pub signatures : Option HeldSignatures  -- the peer's, over the own commitment
   pub secrets : List PeerSecret  -- the peer's, since the record that the host has
   pub line : Waiting
@@ -45,6 +47,7 @@ hosted first_point l = record {
   link = l;
   first_point = first_point;
   records = finite.empty;
+  taken = None;
   signatures = None;
   secrets = [];
   line = empty;
@@ -59,9 +62,9 @@ keys_with first_point = record { first_point = first_point; is_right = false; se
 abbrev pub new_hosted : List ℕ → Stage → Seat
 new_hosted first_point s = hosted first_point (begun (keys_with first_point) s)
 
--- ---- what the host hasn't saved
+-- ---- what the host has saved
 
--- the record of an end, where the store has one
+-- the record of an end that was saved since
 abbrev pub record_in : Option End → Records → Option (List ℕ)
 record_in None rs = None
 record_in (Some e) rs = finite.get rs e.dance.channel
@@ -70,9 +73,17 @@ record_in (Some e) rs = finite.get rs e.dance.channel
 abbrev pub record_of : Seat → Option (List ℕ)
 record_of s = record_in (saved_end s.link.stage) s.records
 
--- the host hasn't taken it
+abbrev pub is_taken : Option (List ℕ) → List ℕ → Bool
+is_taken None bytes = false
+is_taken (Some taken) bytes = are_same taken bytes
+
+-- the record isn't what the host has taken
+abbrev pub is_unsaved : Option (List ℕ) → Option (List ℕ) → Bool
+is_unsaved None taken = false
+is_unsaved (Some bytes) taken = not (is_taken taken bytes)
+
 abbrev pub waits : Seat → Bool
-waits s = is_some (record_of s)
+waits s = is_unsaved (record_of s) s.taken
 
 -- ---- what the host is shown to be saved: the record, and what the chain may need that no record has
 
@@ -110,10 +121,16 @@ pub record WaitInPart (s : Stage) (os : List Output) (old new : Waiting) : Type 
   pub parts : os ≡ first ++ next ∷ rest
   pub line : new ≡ with_outputs s first old
 
+-- where no record waits, none is kept beside the one that the host has
+abbrev pub kept_while : Bool → Records → Records
+kept_while true rs = rs
+kept_while false rs = finite.empty
+
 -- the record waits where the host hasn't taken it, and what is handed out waits after it; what stands first then wasn't
 -- shown yet
 abbrev pub handed : List Output → Seat → Seat
 handed os s = record s {
+  records = kept_while (covered_by (waits s) s.line.record_waits) s.records;
   line = with_outputs s.link.stage os (with_record (waits s) s.line);
   is_shown = false;
 }

@@ -15,6 +15,7 @@ seat h = record {
   link = h.link;
   first_point = h.first_point;
   records = h.store;
+  taken = h.taken;
   signatures = h.signatures;
   secrets = h.secrets.items;
   line = h.line;

@@ -15,7 +15,7 @@ ghost use Rattle.ln_host.specs.Hearing.{known, told, kept, reply_due, Replies, I
 ghost use Rattle.ln_host.specs.Hearing.{TakesUnlessMemory, IsHeard};
 ghost use Rattle.ln_host.specs.Hosted.{keys_with, hosted, new_hosted, waits, host_record, with_output, with_outputs};
 ghost use Rattle.ln_host.specs.Hosted.{WaitInPart, handed, halted, Hands, IsConnected, IsObeyed, disconnected, funded};
-ghost use Rattle.ln_host.specs.Hosted.{shown, with_events, with_link, with_pending};
+ghost use Rattle.ln_host.specs.Hosted.{record_of, shown, with_events, with_link, with_pending};
 ghost use Rattle.ln_host.specs.Line.{IsHead};
 ghost use Rattle.ln_host.specs.Seats.{seat, ComesBack, IsRefusedRecord};
 ghost use Rattle.ln_host.specs.Seen.{secret_of};
@@ -38,13 +38,14 @@ use ln_refusals::Refusal;
 use ln_store::{Listed, MemoryStore, RecordStore};
 use std::alloc::Global;
 
-/// A link whose host brings keys, disk and sockets: what it hands out waits in a line. It keeps a record only until its
-/// host has taken it.
+/// A link whose host brings keys, disk and sockets: what it hands out waits in a line. Where no record waits it keeps
+/// the one that its host has, to tell a new one by.
 #[derive(Drop)]
 pub struct HostLink {
     link: Link<HostKeys>,
     first_point: [u8; 33],
     store: MemoryStore,
+    taken: Option<Bytes>,
     signatures: Option<HeldSignatures>,
     secrets: Vec<PeerSecret>,
     line: Line,
@@ -98,6 +99,7 @@ fn hosted(alloc: Global, link: Link<HostKeys>, first_point: [u8; 33]) -> HostLin
         link,
         first_point,
         store: MemoryStore::new(alloc),
+        taken: None,
         signatures: None,
         secrets: Vec::new(alloc),
         line: Line::new(alloc),
@@ -254,22 +256,32 @@ impl HostLink {
         self.link.name_funding(txid, output)
     }
 
-    // Whether there is a record that the host hasn't taken.
+    // Whether there is a record that isn't what the host has taken.
     fn is_unsaved(&self) -> bool
         ensures { result ≡ waits (seat self.now) }
     {
         match self.machine().saved() {
             None => false,
-            Some(channel) => self.store.find(&channel.id()).is_some(),
+            Some(channel) => match self.store.find(&channel.id()) {
+                None => false,
+                Some(record) => match &self.taken {
+                    None => true,
+                    Some(taken) => taken.as_slice() != record.as_slice(),
+                },
+            },
         }
     }
 
-    // The record waits where the host hasn't taken it. What stands first has to be shown anew.
-    fn put_record(&mut self)
+    // The record waits where the host hasn't taken it; where none waits, none is kept beside the one that it has. What
+    // stands first has to be shown anew.
+    fn put_record(&mut self, alloc: Global)
         ensures { seat self.new ≡ handed [] (seat self.old) }
     {
         let unsaved = self.is_unsaved();
         self.line.put_record(unsaved);
+        if !self.line.has_record() {
+            put(&mut self.store, MemoryStore::new(alloc));
+        }
         self.is_shown = false;
     }
 
@@ -277,7 +289,7 @@ impl HostLink {
     fn queue(&mut self, alloc: Global, outputs: Vec<Output>) -> Result<(), Refusal>
         ensures hands { Hands outputs.items (seat self.old) result (seat self.new) }
     {
-        self.put_record();
+        self.put_record(alloc);
         match queue_outputs(alloc, self.link.channel_machine(), &mut self.line, outputs) {
             Ok(()) => Ok(()),
             Err(refusal) => {
@@ -294,7 +306,7 @@ impl HostLink {
         match self.link.connect(alloc) {
             Ok(outputs) => self.queue(alloc, outputs),
             Err(refusal) => {
-                self.put_record();
+                self.put_record(alloc);
                 Err(refusal)
             }
         }
@@ -316,7 +328,7 @@ impl HostLink {
         match self.link.command(alloc, &mut self.store, command) {
             Ok(outputs) => self.queue(alloc, outputs),
             Err(refusal) => {
-                self.put_record();
+                self.put_record(alloc);
                 Err(refusal)
             }
         }
@@ -403,7 +415,7 @@ impl HostLink {
             Err(refusal) => {
                 drop(seen);
                 drop(secrets);
-                self.put_record();
+                self.put_record(alloc);
                 Err(self.reply(alloc, refusal, channel))
             }
         }
@@ -479,7 +491,7 @@ impl HostLink {
     }
 
     /// What the host saves, whole: the record, the peer's signatures, and its secrets since the record that the host
-    /// has. None where the host has taken the newest record; 60 where there is no memory.
+    /// has. None where no record waits; 60 where there is no memory.
     pub fn unsaved(&self, alloc: Global) -> Result<Option<HostRecord>, Refusal>
         ensures record { IfOk result (λ r. r ≡ host_record (seat self.now)) }
         ensures fails_for_memory_alone { IfErr result (λ r. r ≡ refusal.Memory) }
@@ -503,8 +515,7 @@ impl HostLink {
     /// or what was told acted on.
     ///
     /// Errors: 40 where nothing waits, or what stands first wasn't shown since the last call; 81 where a blank is
-    /// filled by too few or too many bytes, or anything else comes with an answer; 60, for a blank alone. Nothing has
-    /// changed then.
+    /// filled by too few or too many bytes, or anything else comes with an answer; 60. Nothing has changed then.
     pub fn done(&mut self, alloc: Global, answer: &[u8]) -> Result<(), HostRefusal>
         ensures does { IsDone (done_by answer.now (seat self.old)) result (seat self.old) (seat self.new) }
     {
@@ -524,19 +535,26 @@ impl HostLink {
         }
     }
 
-    // The host has saved the record. Error: 81 where it comes with an answer.
+    // The host has saved the record. Errors: 81 where it comes with an answer, 60.
     fn save_done(&mut self, alloc: Global, answer: &[u8]) -> Result<(), HostRefusal>
+        requires { self.old.line.record_waits ≡ true }
         ensures { IsDone (unanswered answer.now (record_saved (seat self.old))) result (seat self.old)
             (seat self.new) }
     {
         if !answer.is_empty() {
             return Err(HostRefusal::Answer);
         }
-        put(&mut self.store, MemoryStore::new(alloc));
-        self.secrets.clear();
-        self.line.take_head();
-        self.is_shown = false;
-        Ok(())
+        match self.copied_record(alloc) {
+            Ok(record) => {
+                put(&mut self.taken, record);
+                put(&mut self.store, MemoryStore::new(alloc));
+                self.secrets.clear();
+                self.line.take_head();
+                self.is_shown = false;
+                Ok(())
+            }
+            Err(memory) => Err(HostRefusal::Refused(memory)),
+        }
     }
 
     // The first message is filled.
@@ -557,6 +575,20 @@ impl HostLink {
         self.line.take_head();
         self.is_shown = false;
         Ok(())
+    }
+
+    // The bytes of the record, where the link has one.
+    fn copied_record(&self, alloc: Global) -> Result<Option<Bytes>, Refusal>
+        ensures record { IfOk result (λ r. r ≡ record_of (seat self.now)) }
+        ensures fails_for_memory_alone { IfErr result (λ r. r ≡ refusal.Memory) }
+    {
+        match self.machine().saved() {
+            None => Ok(None),
+            Some(channel) => match self.store.find(&channel.id()) {
+                None => Ok(None),
+                Some(record) => Ok(Some(Bytes::from_slice(alloc, record.as_slice())?)),
+            },
+        }
     }
 }
 

@@ -107,6 +107,13 @@ impl Line {
         }
     }
 
+    /// Whether a record waits. Takes no memory.
+    pub fn has_record(&self) -> bool
+        ensures { result ≡ self.now.record_waits }
+    {
+        self.record_waits
+    }
+
     /// A message that goes out, after all others. 60 where there is no memory, and nothing has changed.
     pub fn put_message(&mut self, outgoing: Outgoing) -> Result<(), Refusal>
         ensures put { OnOk result (self.new ≡ with_message outgoing self.old) }
