@@ -15,7 +15,7 @@ ghost use Rattle.ln_host.specs.Hearing.{known, told, kept, reply_due, Replies, I
 ghost use Rattle.ln_host.specs.Hearing.{TakesUnlessMemory, IsHeard};
 ghost use Rattle.ln_host.specs.Hosted.{keys_with, hosted, new_hosted, waits, host_record, with_output, with_outputs};
 ghost use Rattle.ln_host.specs.Hosted.{WaitInPart, handed, halted, Hands, IsConnected, IsObeyed, disconnected, funded};
-ghost use Rattle.ln_host.specs.Hosted.{record_of, shown, with_events, with_link, with_pending};
+ghost use Rattle.ln_host.specs.Hosted.{record_of, kept_while, shown, with_events, with_link, with_pending};
 ghost use Rattle.ln_host.specs.Line.{IsHead};
 ghost use Rattle.ln_host.specs.Seats.{seat, ComesBack, IsRefusedRecord};
 ghost use Rattle.ln_host.specs.Seen.{secret_of};
@@ -279,10 +279,18 @@ impl HostLink {
     {
         let unsaved = self.is_unsaved();
         self.line.put_record(unsaved);
-        if !self.line.has_record() {
+        let waits = self.line.has_record();
+        self.keep_while(alloc, waits);
+        self.is_shown = false;
+    }
+
+    // What was saved is kept while a record waits.
+    fn keep_while(&mut self, alloc: Global, waits: bool)
+        ensures { seat self.new ≡ record (seat self.old) { records = kept_while waits self.old.store } }
+    {
+        if !waits {
             put(&mut self.store, MemoryStore::new(alloc));
         }
-        self.is_shown = false;
     }
 
     // What a call hands out waits after the record; the link halts where there is no memory for it.
