@@ -6,8 +6,8 @@ ghost use Rattle.ln_log.specs.Log as logs;
 ghost use Rattle.ln_log.specs.Log.{Log};
 ghost use Rattle.ln_channel.specs.State.{State, StandsFor};
 ghost use Rattle.ln_host.specs.declared.keys.HostKeys.{HostKeys};
-ghost use Rattle.ln_library.specs.Looks.{status_of, lost_data_of, kept_own, removed_id, removed_ids, channel_of, next_id_of};
-ghost use Rattle.ln_library.specs.Looks.{removed_of, link_summary};
+ghost use Rattle.ln_library.specs.Looks.{status_of, lost_data_of, kept_own, removed_id, removed_ids, channel_of};
+ghost use Rattle.ln_library.specs.Looks.{next_id_of, removed_of, link_summary};
 
 use ln_channel::{Channel, ChannelMachine, ChannelStatus};
 use ln_host::HostKeys;

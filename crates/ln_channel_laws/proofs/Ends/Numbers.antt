@@ -36,7 +36,8 @@ use Rattle.ln_channel.specs.Commands.{sign_command_fault, shut_fault, shuts_down
 use Rattle.ln_channel.specs.Resume.{resumed}
 use Rattle.ln_channel.specs.State.{is_down}
 use Rattle.ln_channel.specs.Step.{faulted, line_fault}
-use Rattle.ln_channel_laws.specs.Ends.{Ends, turned, message_at, command_at, answers, delivers, Act, Deliver, Give, Note}
+use Rattle.ln_channel_laws.specs.Ends.{Ends, turned, message_at, command_at, answers, delivers, Act, Deliver}
+use Rattle.ln_channel_laws.specs.Ends.{Give, Note}
 use Rattle.ln_channel_laws.specs.Ends.{Lose, Cut, Save, still_come, acts, connects, Step, By, Connect, happens, run}
 
 pub record AreFurther (m n : Numbers) : Type 0 where
