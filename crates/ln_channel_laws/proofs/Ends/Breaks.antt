@@ -37,7 +37,8 @@ parted_by s a c acked signed current (Answered e1 e2 e3 e4) =
     (omega (arith, e1, e2), omega (arith, e2), omega (arith, e1))
 
 pub keeps_up : (a b : Signer) (x y : End) → Phase x.dance.numbers.signed x.dance.numbers.revoked
-    y.dance.numbers.commitment x.dance.log.acknowledged x.dance.log.signed y.dance.log.current → Knows b x y → KeepsUp b x.dance y.dance
+    y.dance.numbers.commitment x.dance.log.acknowledged x.dance.log.signed y.dance.log.current
+    → Knows b x y → KeepsUp b x.dance y.dance
 keeps_up a b x y p k =
     let q = parted_by x.dance.numbers.signed x.dance.numbers.revoked y.dance.numbers.commitment x.dance.log.acknowledged
     x.dance.log.signed y.dance.log.current p in

@@ -19,7 +19,8 @@ returns-clause-appends_the_value c =
     c.put_u64-2.new.out.items c.put_u64-3.new.out.items c.put_u64-4.new.out.items c.put_list.new.out.items
     (connection_form.bytes s.connection) (bit.bytes s.halted) ((optional (fixed 32)).bytes s.channel)
     (status_form.bytes s.status) (lost_data_form.bytes s.lost_data) (numbers.bytes s.numbers)
-    (big_bytes 8 s.own_msat) (big_bytes 8 s.peer_msat) (big_bytes 8 s.live_htlcs) (big_bytes 8 s.next_own_htlc_id) ((list (number 8)).bytes s.removed_htlc_ids)
+    (big_bytes 8 s.own_msat) (big_bytes 8 s.peer_msat) (big_bytes 8 s.live_htlcs)
+    (big_bytes 8 s.next_own_htlc_id) ((list (number 8)).bytes s.removed_htlc_ids)
     c.in_ok-put_connection.ensures.appends_it c.in_ok-put_bit.ensures.appends_it
     c.in_ok-put_optional.ensures.appends_it c.in_ok-write.ensures.appends_the_value
     c.in_ok-put_lost_data.ensures.appends_it
