@@ -1,14 +1,14 @@
--- What is read of two lists, one behind the other; and of the HTLCs of a channel.
+-- What is read of two lists, one behind the other; and of the HTLCs of a channel; and where none is changed.
 use Rattle.std.specs.Prelude.{◌≡◌, ℕ, List, [], ◌∷◌, ◌++◌, Option, Some, None}
-use Rattle.std.specs.List.{cons_option}
-use Rattle.std.specs.Prelude.{Bool, true, false, cond, filter, ◌&&◌}
+use Rattle.std.specs.List.{cons_option, find}
+use Rattle.std.specs.Prelude.{Bool, true, false, cond, filter, ◌&&◌, is_some, is_none, option_map}
 use Rattle.std.proofs.Common.{refl, ap, sym, ◌∙◌}
 use Rattle.ln_log.specs.declared.update.Add.{Add}
 use Rattle.ln_log.specs.declared.update.Update.{Update}
 use Rattle.ln_log.specs.Updates.{offered, add_with}
 use Rattle.ln_log.proofs.Removing.{or_else, add_with-append}
 use Rattle.ln_book_tables.specs.declared.htlc.Htlc.{Htlc}
-use Rattle.ln_book_tables.specs.Replay.{same}
+use Rattle.ln_book_tables.specs.Replay.{same, changed_first}
 use Rattle.ln_book_tables.specs.Ids.{ids_in}
 use Rattle.ln_book.specs.Kept.{kept_ids}
 use Rattle.ln_book.specs.declared.recovery.leg.Leg.{Leg}
@@ -45,3 +45,19 @@ kept_among removes c [] = refl
 kept_among removes c (h ∷ hs) =
     among_by (same c h.key.channel) (removes h.key.id) h.key.id (kept_ids removes c hs) (ids_in c hs) removes refl
     (kept_among removes c hs)
+
+unchanged_by : {A : Type 0} (b : Bool) (p : A → Bool) (f : A → A) (x : A) (xs : List A)
+    → is_none (cond b (Some x) (find p xs)) ≡ true → (is_none (find p xs) ≡ true → changed_first p f xs ≡ xs)
+    → cond b (f x ∷ xs) (x ∷ changed_first p f xs) ≡ x ∷ xs
+unchanged_by true p f x xs none rest = absurd (cc)
+unchanged_by false p f x xs none rest = ap (λ ys. x ∷ ys) (rest none)
+
+-- where none is found, none is changed
+pub none_changed : {A : Type 0} (p : A → Bool) (f : A → A) (xs : List A) → is_none (find p xs) ≡ true
+    → changed_first p f xs ≡ xs
+none_changed p f [] none = refl
+none_changed p f (x ∷ xs) none = unchanged_by (p x) p f x xs none (none_changed p f xs)
+
+pub some_shown : {A B : Type 0} (f : A → B) (o : Option A) → is_some (option_map f o) ≡ is_some o
+some_shown f None = refl
+some_shown f (Some x) = refl

@@ -13,4 +13,5 @@ pub mod Told
 pub mod Commands
 pub mod Legs
 pub mod Marks
+pub mod Noted
 pub mod Settled

@@ -1,10 +1,14 @@
 //! The book of a node's forwarded payments.
 
-ghost use Rattle.std.specs.Prelude.{◌≡◌, IfOk, IfErr};
+ghost use Rattle.std.specs.Prelude.{◌≡◌, OnOk, OnErr, IfOk, IfErr, true, ◌&&◌, is_some};
+ghost use Rattle.std.specs.List.{find};
+ghost use Rattle.ln_book_tables.specs.Replay.{is_offered, with_resolved};
+ghost use Rattle.ln_book.specs.Settled.{has_reason};
 
 use crate::commands::first_command;
 use crate::legs::other_channel;
 use crate::marks::{mark_by, mark_of, offer_of};
+use crate::noted::Noted;
 use crate::recovery::kept::{Kept, kept_state_of};
 use crate::recovery::leg::ChannelSnapshot;
 use crate::recovery::rebuild::rebuilt_htlcs;
@@ -15,7 +19,6 @@ use ln_book_tables::{
 use ln_bytes::ShortId;
 use ln_channel::Command;
 use ln_forward::{Expected, Policy};
-use ln_history::Past;
 use ln_hooks::{ChannelEvent, How, Verdict};
 use ln_keys::Onion;
 use ln_log::{ChannelId, Mark};
@@ -31,11 +34,39 @@ fn copy_mark(mark: &Mark) -> Result<Mark, Refusal>
     Ok(mark.clone()?)
 }
 
+// The same of what has become of an HTLC. Error: 60 alone, where it is a reason.
+fn copy_how(how: &How) -> Result<How, Refusal>
+    ensures copy { IfOk result (λ h. h ≡ how.now) }
+    ensures fails_for_memory_alone { IfErr result (λ r. r ≡ Refusal.Memory) }
+    ensures takes_memory_for_a_reason_alone { OnErr result (has_reason how.now ≡ true) }
+{
+    match how {
+        How::Fulfilled(preimage) => Ok(How::Fulfilled(*preimage)),
+        How::Failed(reason) => Ok(How::Failed(reason.clone()?)),
+        How::Malformed(sha, code) => Ok(How::Malformed(*sha, *code)),
+    }
+}
+
+// Tables keep what has become of an outgoing HTLC, where they have it.
+fn keep_result(tables: &mut Tables, key: Key, how: &How) -> Result<(), Refusal>
+    ensures done { OnOk result (tables.new ≡ with_resolved key how.now tables.old) }
+    ensures changes_nothing_if_refused { OnErr result (tables.new ≡ tables.old) }
+    ensures fails_for_memory_alone { IfErr result (λ r. r ≡ Refusal.Memory) }
+    ensures takes_memory_for_a_reason_alone { OnErr result
+        ((has_reason how.now && is_some (find (is_offered key) tables.old.htlcs)) ≡ true) }
+{
+    if tables.offered(&key).is_none() {
+        return Ok(());
+    }
+    tables.over(key, copy_how(how)?);
+    Ok(())
+}
+
 /// The book of a node's forwarded payments. Contracts see it as what it began with and what was entered since, of
-/// which its tables are the replay. The history takes no memory: only proofs read it.
+/// which its tables are the replay.
 pub struct Book {
     tables: Tables,
-    history: Past<Tables, Entry>,
+    history: Noted,
 }
 
 // By hand: crates above don't prove again how its parts are dropped.
@@ -55,9 +86,9 @@ impl Model for Book {
 
     ghost Value = { History Table Entry };
 
-    ghost view = { λ b. b.history.told };
+    ghost view = { λ b. b.history };
 
-    ghost invariant = { λ b. b.tables ≡ table_of b.history.told };
+    ghost invariant = { λ b. b.tables ≡ table_of b.history };
 }
 
 impl Book {
@@ -72,7 +103,7 @@ impl Book {
         ensures { result ≡ begun_with no_table }
     {
         let tables = Tables::new(alloc);
-        let history = Past::begun(&tables);
+        let history = Noted::begun(&tables);
         Book { tables, history }
     }
 
@@ -98,7 +129,7 @@ impl Book {
             minimum,
         };
         self.tables.set_route(id, outgoing)?;
-        self.history = self.history.and(&Entry::Route(id, outgoing));
+        self.history = self.history.entered(&Entry::Route(id, outgoing));
         Ok(())
     }
 
@@ -109,7 +140,7 @@ impl Book {
         ensures fails_for_memory_alone { IfErr result (λ r. r ≡ Refusal.Memory) }
     {
         self.tables.set_usable(channel, usable)?;
-        self.history = self.history.and(&Entry::Use(channel, usable));
+        self.history = self.history.entered(&Entry::Use(channel, usable));
         Ok(())
     }
 
@@ -125,7 +156,7 @@ impl Book {
         requires { height ≤ 400000000 }
         ensures { self.new ≡ with_entry (entry.Height height) self.old }
     {
-        self.history = self.history.and(&Entry::Height(height));
+        self.history = self.history.entered(&Entry::Height(height));
         self.tables.set_height(height);
     }
 
@@ -148,7 +179,7 @@ impl Book {
         let expected = Expected { secret, amount };
         let invoice = Invoice { preimage, expected };
         self.tables.expect(invoice)?;
-        self.history = self.history.and(&Entry::Expect(invoice));
+        self.history = self.history.entered(&Entry::Expect(invoice));
         Ok(())
     }
 }
@@ -162,7 +193,10 @@ impl Book {
     ghost use Rattle.ln_book.specs.Commands.{services_of, first_command, with_taken, with_answered};
     ghost use Rattle.std.specs.Prelude.{◌⊎◌, ◌↔◌, IsErrOf, None, Some};
     ghost use Rattle.ln_book.specs.Marks.{offer_of, mark_of, decision, resumption};
-    ghost use Rattle.ln_book.specs.Settled.{with_settled};
+    ghost use Rattle.std.specs.Prelude.{true, ◌&&◌, is_some};
+    ghost use Rattle.std.specs.List.{find};
+    ghost use Rattle.ln_book_tables.specs.Replay.{is_offered};
+    ghost use Rattle.ln_book.specs.Settled.{with_settled, keeps_a_reason, has_reason};
     ghost use Rattle.ln_book.specs.Legs.{other_leg};
 
     /// Decides the event of this number by what the hooks say of it, and queues the decision for its channel: answers
@@ -193,7 +227,6 @@ impl Book {
         let offer = offer_of(told);
         let mark = mark_of(alloc, onion, &self.tables, event, offer.as_ref(), verdict)?;
         let queued = copy_mark(&mark)?;
-        let noted = copy_mark(&mark)?;
         let answer = copy_mark(&mark)?;
         let decided = Decided {
             channel,
@@ -201,28 +234,20 @@ impl Book {
             offer,
             mark,
         };
-        self.note_decided(decided, queued, noted)?;
+        self.note_decided(decided, queued)?;
         Ok(answer)
     }
 
-    // An event was decided; the other marks are copies of its mark.
-    fn note_decided(&mut self, decided: Decided, queued: Mark, noted: Mark) -> Result<(), Refusal>
-        requires same { (queued ≡ decided.mark) × (noted ≡ decided.mark) }
+    // An event was decided; the other mark is a copy of its mark.
+    fn note_decided(&mut self, decided: Decided, queued: Mark) -> Result<(), Refusal>
+        requires same { queued ≡ decided.mark }
         ensures done { OnOk result (self.new ≡ with_entry (entry.Decided decided) self.old) }
         ensures changes_nothing_if_refused { OnErr result (self.new ≡ self.old) }
         ensures fails_for_memory_alone { IfErr result (λ r. r ≡ Refusal.Memory) }
     {
-        let channel = decided.channel;
-        let event = decided.event;
-        let offer = decided.offer;
+        let history = self.history.decided(&decided);
         self.tables.decide(decided, queued)?;
-        let entry = Entry::Decided(Decided {
-            channel,
-            event,
-            offer,
-            mark: noted,
-        });
-        self.history = self.history.and(&entry);
+        self.history = history;
         Ok(())
     }
 
@@ -277,38 +302,31 @@ impl Book {
             return Err(Refusal::NotReady);
         };
         let mark = mark_by(alloc, onion, &self.tables, event, &offer, verdict)?;
-        let noted = copy_mark(&mark)?;
         let answer = copy_mark(&mark)?;
         let resumed = Resumed {
             channel,
             event,
             mark,
         };
-        self.note_resumed(resumed, noted)?;
+        self.note_resumed(resumed)?;
         Ok(answer)
     }
 
-    // What is held was decided; the other mark is a copy of its mark.
-    fn note_resumed(&mut self, resumed: Resumed, noted: Mark) -> Result<(), Refusal>
-        requires same { noted ≡ resumed.mark }
+    // What is held was decided.
+    fn note_resumed(&mut self, resumed: Resumed) -> Result<(), Refusal>
         ensures done { OnOk result (self.new ≡ with_entry (entry.Resumed resumed) self.old) }
         ensures changes_nothing_if_refused { OnErr result (self.new ≡ self.old) }
         ensures fails_for_memory_alone { IfErr result (λ r. r ≡ Refusal.Memory) }
     {
-        let channel = resumed.channel;
-        let event = resumed.event;
+        let history = self.history.resumed(&resumed);
         self.tables.resume(resumed)?;
-        let entry = Entry::Resumed(Resumed {
-            channel,
-            event,
-            mark: noted,
-        });
-        self.history = self.history.and(&entry);
+        self.history = history;
         Ok(())
     }
 
     /// What a channel has told: what has become of an own HTLC, or that a removal of a peer's one is irrevocably
-    /// committed. Any other event changes nothing. Takes memory for a reason. Error: 60 alone, which changes nothing.
+    /// committed. Any other event changes nothing. Takes memory for why an HTLC failed that the book has offered, and
+    /// for nothing else. Error: 60 alone, which changes nothing.
     pub fn settled(
         &mut self,
         alloc: Global,
@@ -318,6 +336,8 @@ impl Book {
         ensures enters_what_is_settled { OnOk result (self.new ≡ with_settled channel told.now self.old) }
         ensures changes_nothing_if_refused { OnErr result (self.new ≡ self.old) }
         ensures fails_for_memory_alone { IfErr result (λ r. r ≡ Refusal.Memory) }
+        ensures takes_memory_for_a_reason_alone { OnErr result
+            (keeps_a_reason channel told.now (table_of self.old) ≡ true) }
     {
         match told {
             ChannelEvent::Added { .. } | ChannelEvent::Closed(_) => {}
@@ -325,9 +345,7 @@ impl Book {
                 let id = *id;
                 let key = Key { channel, id };
                 if *own {
-                    let noted = how.clone()?;
-                    let how = how.clone()?;
-                    self.note_resolved(key, how, noted);
+                    self.note_resolved(key, how)?;
                 } else {
                     self.note_removed(key);
                 }
@@ -352,21 +370,24 @@ impl Book {
         }
     }
 
-    // What has become of an outgoing HTLC; the second one is a copy of the first.
-    fn note_resolved(&mut self, key: Key, how: How, noted: How)
-        requires { noted ≡ how }
-        ensures { self.new ≡ with_entry (entry.Resolved key how) self.old }
+    // What has become of an outgoing HTLC.
+    fn note_resolved(&mut self, key: Key, how: &How) -> Result<(), Refusal>
+        ensures done { OnOk result (self.new ≡ with_entry (entry.Resolved key how.now) self.old) }
+        ensures changes_nothing_if_refused { OnErr result (self.new ≡ self.old) }
+        ensures fails_for_memory_alone { IfErr result (λ r. r ≡ Refusal.Memory) }
+        ensures takes_memory_for_a_reason_alone { OnErr result
+            ((has_reason how.now && is_some (find (is_offered key) (table_of self.old).htlcs)) ≡ true) }
     {
-        self.tables.over(key, how);
-        let entry = Entry::Resolved(key, noted);
-        self.history = self.history.and(&entry);
+        keep_result(&mut self.tables, key, how)?;
+        self.history = self.history.resolved(key, how);
+        Ok(())
     }
 
     // The removal of an incoming HTLC is irrevocably committed.
     fn note_removed(&mut self, key: Key)
         ensures { self.new ≡ with_entry (entry.Removed key) self.old }
     {
-        self.history = self.history.and(&Entry::Removed(key));
+        self.history = self.history.entered(&Entry::Removed(key));
         self.tables.removed(key);
     }
 
@@ -402,7 +423,7 @@ impl Book {
         ensures fails_for_memory_alone { IfErr result (λ r. r ≡ Refusal.Memory) }
     {
         self.tables.take(channel, out)?;
-        self.history = self.history.and(&Entry::Taken(channel, out));
+        self.history = self.history.entered(&Entry::Taken(channel, out));
         Ok(())
     }
 
@@ -414,7 +435,7 @@ impl Book {
         ensures { self.new ≡ with_answered channel answer (pending_command_at channel (table_of self.old)) self.old }
     {
         if let PendingCommand::InFlight(_) = self.tables.answered(&channel, answer) {
-            self.history = self.history.and(&Entry::Answered(channel, answer));
+            self.history = self.history.entered(&Entry::Answered(channel, answer));
         }
     }
 }
@@ -451,8 +472,7 @@ impl Book {
         ensures { self.new ≡ with_entry (entry.Dropped channel told) self.old }
     {
         self.tables.dropped(&channel, &told);
-        let entry = Entry::Dropped(channel, told);
-        self.history = self.history.and(&entry);
+        self.history = self.history.entered(&Entry::Dropped(channel, told));
     }
 }
 
@@ -475,7 +495,7 @@ impl Book {
     {
         let htlcs = rebuilt_htlcs(alloc, snapshots)?;
         self.tables.begin(alloc, htlcs)?;
-        self.history = Past::begun(&self.tables);
+        self.history = Noted::begun(&self.tables);
         Ok(())
     }
 }

@@ -7,6 +7,7 @@ mod book;
 mod commands;
 mod legs;
 mod marks;
+mod noted;
 mod recovery;
 mod switch;
 

@@ -29,13 +29,13 @@ pub struct BookHandle<O: Drop> {
 
 impl<O: Onion + Copy + Drop> BookHandle<O> {
     ghost use Rattle.std.specs.Prelude.{◌≡◌, ◌⊎◌, ◌↔◌, ◌++◌, ◌∷◌, [], OnOk, OnErr, IfOk, IfErr};
-    ghost use Rattle.std.specs.Prelude.{Some, false, option_map};
+    ghost use Rattle.std.specs.Prelude.{Some, false, true, option_map};
     ghost use Rattle.ln_book_tables.specs.declared.entry.Entry.TheVariants as entry;
     ghost use Rattle.ln_history.specs.History.{with_entry};
     ghost use Rattle.ln_book_tables.specs.Replay.{table_of};
     ghost use Rattle.ln_book.specs.Commands.{services_of, first_command, with_taken};
     ghost use Rattle.ln_book.specs.Marks.{offer_of, mark_of, decision};
-    ghost use Rattle.ln_book.specs.Settled.{with_settled};
+    ghost use Rattle.ln_book.specs.Settled.{with_settled, keeps_a_reason};
     ghost use Rattle.ln_book.specs.Saying.{took, answered, settled, decided, dropped, uses, last_use};
     ghost use Rattle.ln_book.specs.Answers.{replied};
     ghost use Rattle.ln_book.specs.Uses.{with_route, with_use, with_dropped};
@@ -93,7 +93,8 @@ impl<O: Onion + Copy + Drop> BookHandle<O> {
         self.said = with_word(&self.said, Saying::Answered(channel, answer));
     }
 
-    /// What has become of an HTLC. Takes memory. Error: 60 alone, which changes nothing, and then nothing was said.
+    /// What has become of an HTLC. Takes memory for why one failed that the book has offered, and for nothing else.
+    /// Error: 60 alone, which changes nothing, and then nothing was said.
     pub fn settled(
         &mut self,
         alloc: Global,
@@ -106,6 +107,8 @@ impl<O: Onion + Copy + Drop> BookHandle<O> {
         ensures says_what_is_settled { OnOk result (said self.new ≡ said self.old ++ settled channel event.now ∷ []) }
         ensures says_nothing_if_refused { OnErr result (said self.new ≡ said self.old) }
         ensures fails_for_memory_alone { IfErr result (λ r. r ≡ Refusal.Memory) }
+        ensures takes_memory_for_a_reason_alone { OnErr result
+            (keeps_a_reason channel event.now (table_of book.old) ≡ true) }
         ensures policy_stays { policy_of self.new ≡ policy_of self.old }
     {
         match book.settled(alloc, channel, event) {
