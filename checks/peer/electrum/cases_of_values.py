@@ -3,6 +3,7 @@ import electrum_side as el
 import lnlink
 from cases import case, close, opens, ready
 from electrum.lnmsg import decode_msg, encode_msg
+from electrum.lnutil import LOCAL
 from keys import FUNDEE, FUNDER
 from session import FEATURES, Session, name_of
 
@@ -91,6 +92,31 @@ async def fee_of_peer_that_is_not_afforded(role):
                                   htlc_signature=b'')) == 31
     assert s.host.link.look().status == lnlink.Status.FAILED
     s.check_always()
+    return s
+
+
+@case
+async def secret_outside_the_tree(role):
+    """Made by hand: a secret that fits its point, but isn't of a tree with the one before (BOLT 3): our host says no."""
+    s = Session(role)
+    secret = el.os.urandom(32)
+    point = el.ecc.ECPrivkey(secret).get_public_key_bytes(compressed=True)
+
+    def changed(raw):
+        if name_of(raw) == 'channel_ready':
+            name, message = decode_msg(raw)
+            raw = encode_msg(name, **{**message, 'next_per_commitment_point': point})
+        s.inbox.append(raw)
+
+    s.from_electrum = changed
+    await s.open()
+    await s.confirm()
+    first, _ = s.chan.get_secret_and_point(LOCAL, 0)
+    for told, number in ((first, 0), (secret, 32)):
+        assert s.we_pay(1_000_000) == 0
+        assert s.host.take(encode_msg('revoke_and_ack', channel_id=s.chan.channel_id, per_commitment_secret=told,
+                                      next_per_commitment_point=point)) == number
+    assert s.host.link.look().status == lnlink.Status.FAILED and list(s.host.disk.secrets) == [0]
     return s
 
 
