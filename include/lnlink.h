@@ -1,7 +1,7 @@
 /* lnlink for C: one end of a Lightning channel, or a routing node of many, without sockets, disk and keys, which their
  * host brings.
  *
- * Built for x86-64 Linux. C99, and C++.
+ * Built for x86-64-v2 Linux. C99, and C++.
  *
  * Numbers are big-endian: u8, u16, u32, u64. `sized2 X` is a length u16 and then X, `sized8 X` a length u64 and then X.
  * `list X` is a count u64 and so many X. `optional X` is a byte 0, or a byte 1 and X. Points have 33 bytes, secrets,
