@@ -8,10 +8,10 @@ use Rattle.ln_book.specs.declared.noted.Note.{Note}
 use Rattle.ln_book.specs.declared.noted.Note.TheVariants as note
 
 abbrev pub entry_of : Note → Entry
-entry_of (note.Entered e) = e.value
-entry_of (note.Decided d) = entry.Decided d.value
-entry_of (note.Resumed r) = entry.Resumed r.value
-entry_of (note.Resolved k how) = entry.Resolved k how.value
+entry_of (note.Entered e) = e.told.start
+entry_of (note.Decided d) = entry.Decided d.told.start
+entry_of (note.Resumed r) = entry.Resumed r.told.start
+entry_of (note.Resolved k how) = entry.Resolved k how.told.start
 
 abbrev pub history_of : History Table Note → History Table Entry
 history_of h = record { start = h.start; entries = map entry_of h.entries }

@@ -4,19 +4,18 @@ use ln_book_tables::{Decided, Entry, Key, Resumed, Tables};
 use ln_history::Past;
 use ln_hooks::How;
 use std::marker::Model;
-use std::snapshot::Snapshot;
 
-/// An entry, by values that stand elsewhere: nothing is copied for it.
+/// An entry, by pasts that begin with what it has: nothing is copied for it.
 #[derive(Drop)]
 pub(crate) enum Note {
     /// This entry.
-    Entered(Snapshot<Entry>),
+    Entered(Past<Entry, ()>),
     /// An event was decided.
-    Decided(Snapshot<Decided>),
+    Decided(Past<Decided, ()>),
     /// What is held was decided.
-    Resumed(Snapshot<Resumed>),
+    Resumed(Past<Resumed, ()>),
     /// What has become of an own HTLC is irrevocably committed.
-    Resolved(Key, Snapshot<How>),
+    Resolved(Key, Past<How, ()>),
 }
 
 /// What a book began with, and what was entered since: proofs alone read it. It takes no memory, and its methods do
@@ -63,27 +62,27 @@ impl Noted {
     pub(crate) fn entered(&self, entry: &Entry) -> Noted
         ensures { result ≡ with_entry entry.now self.now }
     {
-        self.and(Note::Entered(Snapshot::of(entry)))
+        self.and(Note::Entered(Past::begun(entry)))
     }
 
     /// An event was decided.
     pub(crate) fn decided(&self, decided: &Decided) -> Noted
         ensures { result ≡ with_entry (entry.Decided decided.now) self.now }
     {
-        self.and(Note::Decided(Snapshot::of(decided)))
+        self.and(Note::Decided(Past::begun(decided)))
     }
 
     /// What is held was decided.
     pub(crate) fn resumed(&self, resumed: &Resumed) -> Noted
         ensures { result ≡ with_entry (entry.Resumed resumed.now) self.now }
     {
-        self.and(Note::Resumed(Snapshot::of(resumed)))
+        self.and(Note::Resumed(Past::begun(resumed)))
     }
 
     /// What has become of an own HTLC is irrevocably committed.
     pub(crate) fn resolved(&self, key: Key, how: &How) -> Noted
         ensures { result ≡ with_entry (entry.Resolved key how.now) self.now }
     {
-        self.and(Note::Resolved(key, Snapshot::of(how)))
+        self.and(Note::Resolved(key, Past::begun(how)))
     }
 }
