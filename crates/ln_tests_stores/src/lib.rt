@@ -1,6 +1,6 @@
 //! Tests of records in databases: a file that fails at each call, what a stop leaves then, and databases that a store
-//! isn't made over; and of links over stores: a save that fails, in memory and in a database, and files that are opened
-//! again. They stand apart so that nobody waits for them.
+//! isn't made over; of many records and a great one; and of links over stores: a save that fails, in memory and in a
+//! database, and files that are opened again. They stand apart so that nobody waits for them.
 #![tactic(auto)]
 
 mod same;
@@ -17,6 +17,8 @@ mod failing_saves;
 mod players;
 #[cfg(test)]
 mod reopened;
+#[cfg(test)]
+mod sizes;
 #[cfg(test)]
 mod stops;
 #[cfg(test)]
