@@ -1,12 +1,15 @@
 -- The links of channels, by their numbers.
-use Rattle.std.specs.Prelude.{ℕ, List, Bool, true, false, Option, Some, None, Result, Ok, Err}
+use Rattle.std.specs.Prelude.{ℕ, List, Bool, false, not, ◌&&◌, ◌||◌, Option, Some, None, Result, Ok, Err, slice_get}
 use Rattle.std.specs.Prelude.{if◌then◌else◌}
 use Rattle.ln_refusals.specs.declared.refusal.Refusal.{Refusal}
-use Rattle.ln_channel.specs.declared.command.Command as declared
-use Rattle.ln_channel.specs.declared.command.Command.TheVariants as command
+use Rattle.ln_channel.specs.Asking.{agreed_end}
 use Rattle.ln_channel.specs.End.{End}
 use Rattle.ln_channel.specs.Record.{saved_end}
-use Rattle.ln_channel.specs.State.{State}
+use Rattle.ln_channel.specs.State.{State, is_down}
+use Rattle.ln_book_tables.specs.Replay.{same}
+use Rattle.ln_book.specs.declared.switch.uses.Use.{Use}
+use Rattle.ln_book.specs.Uses.{use_of}
+use Rattle.ln_manager_channels.specs.Numbers.{NumbersById, number_at}
 
 -- ---- the link at a place, where there is one
 
@@ -18,9 +21,19 @@ abbrev pub halted_in : {K : Type 0} → Option (State K) → Bool
 halted_in None = false
 halted_in (Some l) = l.halted
 
+-- it works and has a connection
+abbrev pub is_up : {K : Type 0} → Option (State K) → Bool
+is_up None = false
+is_up (Some l) = not l.halted && not (is_down l.connection)
+
 abbrev pub id_by_end : Option End → Option (List ℕ)
 id_by_end None = None
 id_by_end (Some e) = Some e.dance.channel
+
+-- the end of one that works
+abbrev pub working_end : {K : Type 0} → Option (State K) → Option End
+working_end None = None
+working_end (Some l) = if l.halted then None else saved_end l.stage
 
 -- the id of the end of a link that works
 abbrev pub working_id : {K : Type 0} → Option (State K) → Option (List ℕ)
@@ -32,33 +45,30 @@ abbrev pub done_in : {A : Type 0} → Result A Refusal → Result (Unit {0}) Ref
 done_in (Ok v) = Ok tt
 done_in (Err r) = Err r
 
--- ---- commands
+-- what the book is told of its end
+abbrev pub use_by : {K : Type 0} → State K → Option End → Option Use
+use_by l None = None
+use_by l (Some e) = Some (use_of l e)
 
--- those by which a link decides what is done about an HTLC
-abbrev pub is_decision : declared.Command → Bool
-is_decision (command.Confirm id) = false
-is_decision (command.Add amount hash expiry onion origin) = false
-is_decision (command.Fulfil id preimage) = false
-is_decision (command.Fail id reason) = false
-is_decision (command.Malformed id sha code) = false
-is_decision (command.Fee feerate) = false
-is_decision command.Sign = false
-is_decision (command.Shutdown script) = false
-is_decision (command.Decide event mark) = true
-is_decision (command.Forget id) = false
-is_decision (command.Resume event mark) = true
+abbrev pub use_in : {K : Type 0} → Option (State K) → Option Use
+use_in None = None
+use_in (Some l) = use_by l (saved_end l.stage)
 
--- what a user may command: it neither removes an HTLC nor decides about one, nor offers one that forwards another
-abbrev pub is_users : declared.Command → Bool
-is_users (command.Confirm id) = true
-is_users (command.Add amount hash expiry onion None) = true
-is_users (command.Add amount hash expiry onion (Some origin)) = false
-is_users (command.Fulfil id preimage) = false
-is_users (command.Fail id reason) = false
-is_users (command.Malformed id sha code) = false
-is_users (command.Fee feerate) = true
-is_users command.Sign = true
-is_users (command.Shutdown script) = true
-is_users (command.Decide event mark) = false
-is_users (command.Forget id) = false
-is_users (command.Resume event mark) = false
+-- ---- channels by their ids
+
+abbrev pub has_id : List ℕ → Option End → Bool
+has_id id None = false
+has_id id (Some e) = same id e.dance.channel
+
+-- its end has this id, or it works and both sides have agreed on it
+abbrev pub is_of : {K : Type 0} → List ℕ → Option (State K) → Bool
+is_of id None = false
+is_of id (Some l) = has_id id (saved_end l.stage) || (not l.halted && has_id id (agreed_end l.stage))
+
+abbrev pub number_if : {K : Type 0} → List ℕ → List (State K) → Option ℕ → Option ℕ
+number_if id ls None = None
+number_if id ls (Some n) = if is_of id (slice_get ls n) then Some n else None
+
+-- the number of the channel that has this id, or awaits it
+abbrev pub number_in : {K : Type 0} → NumbersById → List (State K) → List ℕ → Option ℕ
+number_in by_id ls id = number_if id ls (number_at id by_id)

@@ -3,10 +3,12 @@
 #![tactic(auto)]
 
 mod channels;
+mod commands;
 mod events;
 mod given;
 mod moves;
 mod newest;
+mod numbers;
 mod saved;
 
 pub use channels::Channels;

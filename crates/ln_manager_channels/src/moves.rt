@@ -1,7 +1,9 @@
 //! What one call makes of the link at a place.
 
 ghost use Rattle.std.specs.Prelude.{◌≡◌, slice_get, option_copied};
-ghost use Rattle.ln_manager_channels.specs.Links.{done_in};
+ghost use Rattle.ln_channel.specs.State.{drops, halts};
+ghost use Rattle.ln_manager_channels.specs.Moves.{naming_in, with_funding, Connects, Takes, TakesAt, Obeys, ObeysAt};
+ghost use Rattle.ln_manager_channels.specs.Places.{changed_at, AnswersAt};
 
 use crate::newest::Newest;
 use ln_channel::{ChannelMachine, Command, Output};
@@ -30,11 +32,20 @@ pub(crate) fn name_at<K: ChannelKeys + Drop>(
     channel: usize,
     txid: [u8; 32],
     output: u16,
-) -> Result<(), Refusal> {
+) -> Result<(), Refusal>
+    ensures answer { result ≡ naming_in (slice_get links.old.items channel) }
+    ensures names { links.new.items ≡ changed_at channel (with_funding txid output) links.old.items }
+{
     match links.get_mut(channel) {
         None => Err(Refusal::NotReady),
         Some(link) => link.name_funding(txid, output),
     }
+}
+
+fn connect<K: ChannelKeys + Drop>(alloc: Global, link: &mut Link<K>) -> Result<Vec<Output>, Refusal>
+    ensures { Connects K.signer link.old link.new result }
+{
+    link.connect(alloc)
 }
 
 /// It is connected.
@@ -42,22 +53,28 @@ pub(crate) fn connect_at<K: ChannelKeys + Drop>(
     alloc: Global,
     links: &mut Vec<Link<K>>,
     channel: usize,
-) -> Result<Vec<Output>, Refusal> {
+) -> Result<Vec<Output>, Refusal>
+    ensures { AnswersAt channel (Connects K.signer) result links.old.items links.new.items }
+{
     match links.get_mut(channel) {
         None => Err(Refusal::NotReady),
-        Some(link) => link.connect(alloc),
+        Some(link) => connect(alloc, link),
     }
 }
 
 /// Its connection is lost.
-pub(crate) fn drop_at<K: ChannelKeys + Drop>(links: &mut Vec<Link<K>>, channel: usize) {
+pub(crate) fn drop_at<K: ChannelKeys + Drop>(links: &mut Vec<Link<K>>, channel: usize)
+    ensures { links.new.items ≡ changed_at channel drops links.old.items }
+{
     if let Some(link) = links.get_mut(channel) {
         link.drop_connection();
     }
 }
 
 /// It halts.
-pub(crate) fn halt_at<K: ChannelKeys + Drop>(links: &mut Vec<Link<K>>, channel: usize) {
+pub(crate) fn halt_at<K: ChannelKeys + Drop>(links: &mut Vec<Link<K>>, channel: usize)
+    ensures { links.new.items ≡ changed_at channel halts links.old.items }
+{
     if let Some(link) = links.get_mut(channel) {
         link.halt();
     }
@@ -69,7 +86,9 @@ fn take<K: ChannelKeys + Drop>(
     newest: &mut Newest,
     keys: K,
     message: Message,
-) -> Result<Vec<Output>, Refusal> {
+) -> Result<Vec<Output>, Refusal>
+    ensures { Takes K.signer keys message link.old link.new newest.old newest.new result }
+{
     link.set_keys(keys);
     link.handle(alloc, newest, message)
 }
@@ -82,7 +101,9 @@ pub(crate) fn take_at<K: ChannelKeys + Drop>(
     channel: usize,
     keys: K,
     message: Message,
-) -> Result<Vec<Output>, Refusal> {
+) -> Result<Vec<Output>, Refusal>
+    ensures { TakesAt K.signer channel keys message result links.old.items links.new.items newest.old newest.new }
+{
     match links.get_mut(channel) {
         None => {
             drop(keys);
@@ -93,6 +114,17 @@ pub(crate) fn take_at<K: ChannelKeys + Drop>(
     }
 }
 
+fn obey<K: ChannelKeys + Drop>(
+    alloc: Global,
+    link: &mut Link<K>,
+    newest: &mut Newest,
+    command: Command,
+) -> Result<Vec<Output>, Refusal>
+    ensures { Obeys K.signer command link.old link.new newest.old newest.new result }
+{
+    link.command(alloc, newest, command)
+}
+
 /// It is given a command, over its store.
 pub(crate) fn obey_at<K: ChannelKeys + Drop>(
     alloc: Global,
@@ -100,12 +132,14 @@ pub(crate) fn obey_at<K: ChannelKeys + Drop>(
     newest: &mut Newest,
     channel: usize,
     command: Command,
-) -> Result<Vec<Output>, Refusal> {
+) -> Result<Vec<Output>, Refusal>
+    ensures { ObeysAt K.signer channel command result links.old.items links.new.items newest.old newest.new }
+{
     match links.get_mut(channel) {
         None => {
             drop(command);
             Err(Refusal::NotReady)
         }
-        Some(link) => link.command(alloc, newest, command),
+        Some(link) => obey(alloc, link, newest, command),
     }
 }

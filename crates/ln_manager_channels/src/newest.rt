@@ -15,8 +15,14 @@ pub struct Newest {
 }
 
 impl Newest {
+    ghost use Rattle.std.specs.Prelude.{◌≡◌, option_copied, IfErr, OnOk, OnErr};
+    ghost use Rattle.std.specs.FinMap as map;
+    ghost use Rattle.ln_manager_channels.specs.Moves.{no_record, knowing};
+
     /// No record. Takes no memory.
-    pub fn new(alloc: Global) -> Newest {
+    pub fn new(alloc: Global) -> Newest
+        ensures { result ≡ no_record }
+    {
         Newest {
             kept: MemoryStore::new(alloc),
             is_fresh: false,
@@ -24,12 +30,18 @@ impl Newest {
     }
 
     /// The record of this id. Takes no memory.
-    pub fn find(&self, id: &[u8; 32]) -> Option<&Bytes> {
+    pub fn find(&self, id: &[u8; 32]) -> Option<&Bytes>
+        ensures { option_copied result ≡ map.get self.now.kept id.now }
+    {
         self.kept.find(id)
     }
 
-    /// Another channel has this id, or awaits it.
-    pub fn know(&mut self, alloc: Global, id: &[u8; 32]) -> Result<(), Refusal> {
+    /// Another channel has this id, or awaits it. Error: 60 alone, which changes nothing.
+    pub fn know(&mut self, alloc: Global, id: &[u8; 32]) -> Result<(), Refusal>
+        ensures knows { OnOk result (self.new ≡ knowing id.now self.old) }
+        ensures changes_nothing_if_refused { OnErr result (self.new ≡ self.old) }
+        ensures fails_for_memory_alone { IfErr result (λ r. r ≡ Refusal.Memory) }
+    {
         self.kept.save(alloc, id, &[])
     }
 }
