@@ -4,4 +4,5 @@ pub mod Held
 pub mod Books
 pub mod Stored
 pub mod Node
+pub mod Waking
 pub mod Wakeup

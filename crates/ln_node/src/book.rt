@@ -2,6 +2,7 @@
 
 ghost use Rattle.std.specs.Prelude.{◌≡◌, [], IfOk};
 ghost use Rattle.ln_book.specs.Handles.{policy_of};
+ghost use Rattle.ln_node.specs.Waking.{outgoing_channel, incoming_channel, other_channel, latest_other};
 
 use crate::notices::Notices;
 use crate::observer::{Monitor, Observer};
@@ -80,7 +81,9 @@ pub(crate) struct Common<O: Drop> {
 }
 
 // The channel in which a payment goes on that is decided so.
-fn outgoing_channel(mark: &Mark) -> Option<ChannelId> {
+fn outgoing_channel(mark: &Mark) -> Option<ChannelId>
+    ensures { result ≡ outgoing_channel mark.now }
+{
     match mark {
         Mark::Forward { channel, .. } => {
             let channel = *channel;
@@ -91,13 +94,17 @@ fn outgoing_channel(mark: &Mark) -> Option<ChannelId> {
 }
 
 // The channel by which a payment came.
-fn incoming_channel(origin: Option<(ChannelId, u64)>) -> Option<ChannelId> {
+fn incoming_channel(origin: Option<(ChannelId, u64)>) -> Option<ChannelId>
+    ensures { result ≡ incoming_channel origin }
+{
     let (channel, _) = origin?;
     Some(channel)
 }
 
 // The other channel of the payment that a command is about, where its answer may make a command due there.
-fn other_channel(command: &Command) -> Option<ChannelId> {
+fn other_channel(command: &Command) -> Option<ChannelId>
+    ensures { result ≡ other_channel command.now }
+{
     match command {
         Command::Decide { mark, .. } => outgoing_channel(mark),
         Command::Resume { mark, .. } => outgoing_channel(mark),
@@ -107,7 +114,9 @@ fn other_channel(command: &Command) -> Option<ChannelId> {
 }
 
 // The same of the latest command, where there is another one.
-fn latest_other(before: Option<ChannelId>, command: Option<&Command>) -> Option<ChannelId> {
+fn latest_other(before: Option<ChannelId>, command: &Option<Command>) -> Option<ChannelId>
+    ensures { result ≡ latest_other before command.now }
+{
     match command {
         None => before,
         Some(command) => other_channel(command),
@@ -202,7 +211,7 @@ impl<O: Onion + Copy + Drop> Books for SharedBook<O> {
         let mut book = self.book.kept.lock(rt);
         match self.handle.take(alloc, &mut book, channel) {
             Ok(command) => {
-                self.other = latest_other(self.other, command.as_ref());
+                self.other = latest_other(self.other, &command);
                 command
             }
             Err(_) => None,

@@ -1,5 +1,7 @@
 //! What has become of the channels of a node, for its user to look at.
 
+ghost use Rattle.std.specs.Prelude.{◌≡◌};
+
 use crate::observer::Monitor;
 use crate::trace::Step;
 use circular_buffer::HeapCircularBuffer;
@@ -10,10 +12,52 @@ use std::sync::{Arc, Mutex, Wait};
 /// How many notices are kept: the latest.
 const KEPT: usize = 256;
 
-/// The latest notices of a node's channels, each with the channel's number. They are traced, too.
+/// The latest notices, each with its channel's number: at most 256.
+#[derive(Drop)]
+pub(crate) struct NoticeRing {
+    kept: HeapCircularBuffer<(usize, Notice)>,
+    ghost room: { kept.capacity ≡ 256 },
+}
+
+impl NoticeRing {
+    ghost use Rattle.std.specs.Prelude.{◌≡◌, ◌++◌, ◌∷◌, [], ◌⊎◌, IfOk};
+    ghost use Rattle.circular_buffer.specs.Buffer.{keep_last};
+
+    // None yet. Takes memory for all that are kept.
+    fn new(alloc: Global) -> Result<NoticeRing, AllocError>
+        ensures is_empty { IfOk result (λ r. r.kept.items ≡ []) }
+    {
+        let kept = HeapCircularBuffer::with_capacity(alloc, KEPT)?;
+        Ok(NoticeRing { kept })
+    }
+
+    // A notice of a channel.
+    fn add(&mut self, channel: usize, notice: Notice)
+        ensures keeps_the_latest { self.new.kept.items
+            ≡ keep_last 256 (self.old.kept.items ++ (channel, notice) ∷ []) }
+    {
+        self.kept.push_back((channel, notice));
+    }
+
+    // Those that are kept, which are forgotten here; none where there is no memory for them, and then they stay.
+    fn take(&mut self, alloc: Global) -> Vec<(usize, Notice)>
+        ensures gives_all_or_keeps_them { ((result.items ≡ self.old.kept.items) × (self.new.kept.items ≡ []))
+            ⊎ ((result.items ≡ []) × (self.new.kept.items ≡ self.old.kept.items)) }
+    {
+        match self.kept.to_vec(alloc) {
+            Ok(notices) => {
+                self.kept.clear();
+                notices
+            }
+            Err(_) => Vec::new(alloc),
+        }
+    }
+}
+
+/// The latest notices of a node's channels. They are traced, too.
 #[derive(Drop)]
 pub(crate) struct Notices {
-    kept: Mutex<HeapCircularBuffer<(usize, Notice)>>,
+    kept: Mutex<NoticeRing>,
     monitor: Arc<Monitor>,
 }
 
@@ -21,7 +65,7 @@ impl Notices {
     /// None yet. Takes memory for all that are kept.
     pub(crate) fn new(alloc: Global, monitor: Arc<Monitor>) -> Result<Notices, AllocError> {
         Ok(Notices {
-            kept: Mutex::new(HeapCircularBuffer::with_capacity(alloc, KEPT)?),
+            kept: Mutex::new(NoticeRing::new(alloc)?),
             monitor,
         })
     }
@@ -32,19 +76,11 @@ impl Notices {
             let step = Step::Noticed(notice);
             self.monitor.traces.add(rt, channel, step);
         }
-        let mut kept = self.kept.lock(rt);
-        kept.push_back((channel, notice));
+        self.kept.lock(rt).add(channel, notice);
     }
 
     /// Those that are kept, which are forgotten here; none where there is no memory for them, and then they stay.
     pub(crate) fn take<R: Wait>(&self, rt: &R, alloc: Global) -> Vec<(usize, Notice)> {
-        let mut kept = self.kept.lock(rt);
-        match kept.to_vec(alloc) {
-            Ok(notices) => {
-                kept.clear();
-                notices
-            }
-            Err(_) => Vec::new(alloc),
-        }
+        self.kept.lock(rt).take(alloc)
     }
 }

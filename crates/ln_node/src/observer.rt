@@ -1,5 +1,7 @@
 //! What watches a channel: it counts for its node, and traces.
 
+ghost use Rattle.std.specs.Prelude.{◌≡◌, ◌++◌, ◌∷◌, [], true, false};
+
 use crate::trace::{Step, Traces};
 use ln_channel::Output;
 use ln_log::Mark;
@@ -41,7 +43,10 @@ pub(crate) struct Observer {
 }
 
 // Adds a step. False where there is no memory.
-fn push(steps: &mut Vec<Step>, step: Step) -> bool {
+fn push(steps: &mut Vec<Step>, step: Step) -> bool
+    ensures appends { result ≡ true → steps.new.items ≡ steps.old.items ++ step ∷ [] }
+    ensures changes_nothing { result ≡ false → steps.new.items ≡ steps.old.items }
+{
     steps.push(step).is_ok()
 }
 

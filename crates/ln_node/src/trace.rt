@@ -1,5 +1,7 @@
 //! The steps of a node's channels, for a program that traces them.
 
+ghost use Rattle.std.specs.Prelude.{◌≡◌, ◌<◌, ◌++◌, ◌∷◌, [], true, false, length};
+
 use ln_node_loops::Notice;
 use ln_refusals::Refusal;
 use std::alloc::Global;
@@ -39,7 +41,11 @@ pub(crate) struct Traces {
 }
 
 // Adds a step, where there is room and memory. False where there is none.
-fn add(kept: &mut Vec<(usize, Step)>, most: u64, channel: usize, step: Step) -> bool {
+fn add(kept: &mut Vec<(usize, Step)>, most: u64, channel: usize, step: Step) -> bool
+    ensures appends { result ≡ true → kept.new.items ≡ kept.old.items ++ (channel, step) ∷ [] }
+    ensures changes_nothing { result ≡ false → kept.new.items ≡ kept.old.items }
+    ensures has_room { result ≡ true → length kept.old.items < most }
+{
     if kept.len() as u64 >= most {
         drop(step);
         return false;
