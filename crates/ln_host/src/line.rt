@@ -186,6 +186,19 @@ impl Line {
             Some(outgoing) => drop(outgoing),
             None => drop(self.told.pop_front()),
         }
+        self.give_back();
+    }
+
+    // An idle line keeps no room: what is empty gives its memory back.
+    fn give_back(&mut self)
+        ensures { self.new ≡ self.old }
+    {
+        if self.messages.is_empty() {
+            self.messages.shrink_to_fit();
+        }
+        if self.told.is_empty() {
+            self.told.shrink_to_fit();
+        }
     }
 
     /// The connection is lost: its messages leave, and no record and nothing that is told. Takes no memory.
@@ -193,5 +206,6 @@ impl Line {
         ensures { self.new ≡ lost self.old }
     {
         self.messages.clear();
+        self.give_back();
     }
 }
