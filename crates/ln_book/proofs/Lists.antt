@@ -1,4 +1,4 @@
--- What is read of two lists, one behind the other; and of the HTLCs of a channel; and where none is changed.
+-- What is read of two lists, one after the other; and of the HTLCs of a channel; and where none is changed.
 use Rattle.std.specs.Prelude.{◌≡◌, ℕ, List, [], ◌∷◌, ◌++◌, Option, Some, None}
 use Rattle.std.specs.List.{cons_option, find}
 use Rattle.std.specs.Prelude.{Bool, true, false, cond, filter, ◌&&◌, is_some, is_none, option_map}

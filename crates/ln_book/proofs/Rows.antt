@@ -309,7 +309,7 @@ resume_refused : after (resuming incoming.Open (pending_command.InFlight (out.Re
     ≡ idle [] (as_held true incoming.Open ∷ [])
 resume_refused = refl
 
--- by the record behind a lost connection
+-- by the record after a lost connection
 resume_lost : after (resuming incoming.Open (pending_command.Unknown (out.Resuming 3)))
     (entry.Dropped a (record { next = 0; removes = []; decides = false })) ≡ resuming incoming.Open pending_command.Idle
 resume_lost = refl

@@ -52,9 +52,9 @@ kept_state_of next removes decides c t = record {
 }
 
 -- ---- what the end of a channel answers, by the updates that it has: those that offered the HTLCs that are live in its
--- base, and those behind it
+-- base, and those after it
 
--- the own updates behind the base
+-- the own updates after the base
 abbrev pub own_window : Log → List Update
 own_window l = between l.first.own (length l.own) l.own
 

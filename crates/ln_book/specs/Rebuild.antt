@@ -1,4 +1,4 @@
--- What a book begins with behind a restart: the HTLCs that came in, as the records of the node's channels have them.
+-- What a book begins with after a restart: the HTLCs that came in, as the records of the node's channels have them.
 use Rattle.std.specs.Prelude.{ℕ, List, [], ◌∷◌, ◌++◌, length, replicate, Bool, true, false, not, ◌&&◌, ◌||◌}
 use Rattle.std.specs.Prelude.{Option, Some, None, if◌then◌else◌}
 use Rattle.std.specs.List.{cons_option, find, list_any}
@@ -74,14 +74,14 @@ abbrev pub legs_resolved : List ℕ → List Settlement → List Leg
 legs_resolved c [] = []
 legs_resolved c (s ∷ ss) = cons_option (leg_resolved c s (how_of s.removal)) (legs_resolved c ss)
 
--- the peer's updates that the end has: those that offered the HTLCs that are live in its base, and those behind it
+-- the peer's updates that the end has: those that offered the HTLCs that are live in its base, and those after it
 abbrev pub peer_window : Log → List Update
 peer_window l = between l.first.peer (length l.received) l.received
 
 abbrev pub peer_updates : Log → List Update
 peer_updates l = first_live_htlcs side.Peer l ++ peer_window l
 
--- the own updates behind the base that are held as irrevocably committed
+-- the own updates after the base that are held as irrevocably committed
 abbrev pub held_updates : Log → List Update
 held_updates l = between l.first.own l.current.own l.own
 
@@ -213,7 +213,7 @@ abbrev pub all_left : List ChannelSnapshot → List ChannelSnapshot → List Htl
 all_left all [] = []
 all_left all (r ∷ rs) = left all r.results ++ all_left all rs
 
--- the HTLCs of all channels, one channel after the other, and behind them the results that are left
+-- the HTLCs of all channels, one channel after the other, and after them the results that are left
 abbrev pub rebuilt_htlcs : List ChannelSnapshot → List Htlc
 rebuilt_htlcs rs = all_unfinished rs rs ++ all_left rs rs
 

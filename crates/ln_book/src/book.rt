@@ -251,8 +251,8 @@ impl Book {
         Ok(())
     }
 
-    /// The HTLCs of all channels that are held and not being resumed, in order of deciding; behind a rebuild one
-    /// channel after the other. A program asks for them behind a restart, as its hooks are gone and see no event again.
+    /// The HTLCs of all channels that are held and not being resumed, in order of deciding; after a rebuild one
+    /// channel after the other. A program asks for them after a restart, as its hooks are gone and see no event again.
     /// Takes memory.
     ///
     /// Error: 60 where there is none.
@@ -428,7 +428,7 @@ impl Book {
     }
 
     /// What a channel has answered to the command that is out: the HTLC's id or the event's number, or the number of
-    /// its refusal. A refusal by 47 or 62 leaves the command to be taken again; behind 60 or 61 nothing can be taken
+    /// its refusal. A refusal by 47 or 62 leaves the command to be taken again; after 60 or 61 nothing can be taken
     /// until the channel was dropped; by any other number the command goes, and an HTLC whose offer was refused below
     /// 47 is failed by 0x1007. Where nothing is out nothing changes. Takes no memory.
     pub fn answered(&mut self, channel: ChannelId, answer: Result<u64, u16>)
@@ -448,7 +448,7 @@ impl Book {
     ghost use Rattle.ln_book.specs.Kept.{kept_state_of};
 
     /// A channel's connection was lost, or the channel was loaded from its record; of one that has halted this is
-    /// called behind the load alone. Nothing is out in it any more. A command that the channel has kept was taken; what
+    /// called after the load alone. Nothing is out in it any more. A command that the channel has kept was taken; what
     /// it has lost can be taken again: of what it has sent and not signed for, an HTLC that it doesn't count any more,
     /// and a removal. Takes memory for what the channel is asked. Error: 60 alone, which changes nothing.
     pub fn dropped<T: Kept>(

@@ -1,4 +1,4 @@
-//! What a channel answers behind a lost connection.
+//! What a channel answers after a lost connection.
 
 use ln_book::Kept;
 use ln_log::Mark;

@@ -82,7 +82,7 @@ fn fundee(alloc: Global) -> Result<Box<End>, Refusal> {
     }
 }
 
-/// Puts a message behind the others, an event behind those told; of the rest nothing is needed.
+/// Puts a message after the others, an event after those told; of the rest nothing is needed.
 fn sort(output: Output, messages: &mut Vec<Message>, told: &mut Vec<Shown>) -> Result<(), Refusal> {
     match output {
         Output::Send(message) => push(messages, message),

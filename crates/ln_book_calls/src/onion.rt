@@ -72,7 +72,7 @@ fn add_payment(bytes: &mut Vec<u8>, secret: u64, total: u64) -> Result<(), Alloc
     add_number(bytes, total)
 }
 
-/// The payloads: this hop's, and 2, 1, 5 for one behind it.
+/// The payloads: this hop's, and 2, 1, 5 for one after it.
 fn payloads_of(alloc: Global, words: &[&str]) -> Result<Vec<Bytes>, AllocError> {
     let mut all = Vec::new(alloc);
     all.push(Bytes::new(payload_of(alloc, words)?))?;

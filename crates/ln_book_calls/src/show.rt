@@ -63,7 +63,7 @@ fn put_held(text: &mut String, held: &HeldHtlc) -> Result<(), AllocError> {
     write!(text, " {channel} {number} {id} {amount} {hash} {expiry},")
 }
 
-/// What is held, one behind the other: the channel's first byte, number, id, amount, hash and expiry.
+/// What is held, one after the other: the channel's first byte, number, id, amount, hash and expiry.
 pub fn show_held(alloc: Global, all: &[HeldHtlc]) -> Result<String, AllocError> {
     let mut text = String::from_str(alloc, "held")?;
     for held in all {

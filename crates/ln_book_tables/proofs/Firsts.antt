@@ -115,7 +115,7 @@ placed_there n (p ∷ ps) (suc i) d lt is out =
     ap (λ qs. p ∷ qs) (placed_there n ps i d (omega (arith, lt)) is (λ k l. out (suc k) (omega (arith, l))))
     ∙ sym (ap (λ b. cond b (n ∷ p ∷ ps) (p ∷ with_place n ps)) (out zero (omega arith)))
 
--- behind all others, or before the first that is behind it
+-- after all others, or before the first that is after it
 pub placed_none : (n : ℕ) (ps : List ℕ) → position (nat_lt n) ps ≡ None → ps ++ n ∷ [] ≡ with_place n ps
 placed_none n ps e = placed_last n ps (all_fail (nat_lt n) ps e)
 

@@ -34,7 +34,7 @@ abbrev pub Leaves : Key → KeyIndex → KeyIndex → Type 0
 Leaves key old new = (new.exact ≡ old.exact)
     × ((k : Key) → place_of k new ≡ (if is_key key k then None else place_of k old))
 
--- a key comes to a place; it stood nowhere, where the index is exact behind that
+-- a key comes to a place; it stood nowhere, where the index is exact after that
 abbrev pub Enters : ℕ → Key → KeyIndex → KeyIndex → Type 0
 Enters place key old new = IsTrue new.exact → IsTrue old.exact
     × ((k : Key) → is_key key k ≡ true → place_of k old ≡ None)

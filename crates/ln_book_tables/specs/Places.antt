@@ -15,7 +15,7 @@ abbrev pub with_place : ℕ → List ℕ → List ℕ
 with_place n [] = n ∷ []
 with_place n (p ∷ ps) = if nat_lt n p then n ∷ p ∷ ps else p ∷ with_place n ps
 
--- the places behind a change of the one at place n, by whether it passed before and whether it passes now
+-- the places after a change of the one at place n, by whether it passed before and whether it passes now
 abbrev pub places_behind : ℕ → Bool → Bool → List ℕ → List ℕ
 places_behind n false false ps = ps
 places_behind n true true ps = ps

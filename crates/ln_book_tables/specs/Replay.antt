@@ -127,7 +127,7 @@ htlc_of d o = record {
   incoming = incoming.Open;
 }
 
--- one that the channel has decided stays as it is; else it joins behind the others
+-- one that the channel has decided stays as it is; else it joins after the others
 abbrev pub joined : Htlc → List Htlc → List Htlc
 joined h hs = if list_any (is_decided h.key) hs then hs else left_out (is_htlc h.key) hs ++ h ∷ []
 

@@ -121,7 +121,7 @@ impl Ids {
     }
 }
 
-/// What a channel has kept behind a lost connection or a load.
+/// What a channel has kept after a lost connection or a load.
 #[derive(Drop)]
 pub struct KeptState {
     /// The id of its next own HTLC.

@@ -229,7 +229,7 @@ fn join_reserved(
     push(slots, indices, htlc);
 }
 
-// One more in a slot behind the others.
+// One more in a slot after the others.
 fn push(slots: &mut Vec<Option<Htlc>>, indices: &mut Indices, htlc: Htlc)
     requires room { (vec_len slots.old < vec_capacity slots.old) × (vec_len slots.old < vec_capacity indices.old.due) }
     requires key_room { held_in slots.old.items < room_in indices.old.by_key }

@@ -1,4 +1,4 @@
-//! What a channel has lost is put back, behind a lost connection or a load.
+//! What a channel has lost is put back, after a lost connection or a load.
 
 ghost use Rattle.std.specs.Prelude.{◌≡◌, map, Option};
 ghost use Rattle.std.specs.Option.{option_map};
@@ -30,7 +30,7 @@ fn is_outgoing_lost(channel: &ChannelId, next: u64, outgoing: &OutgoingLeg) -> b
     }
 }
 
-// The removal behind that.
+// The removal after that.
 fn incoming_kept(kept: bool, incoming: IncomingLeg) -> IncomingLeg
     ensures { result ≡ incoming_kept kept incoming }
 {

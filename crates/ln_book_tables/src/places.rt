@@ -6,7 +6,7 @@ ghost use Rattle.std.specs.Vec.{vec_capacity, vec_len};
 ghost use Rattle.ln_book_tables.specs.Places.{with_place, places_behind};
 ghost use Rattle.ln_book_tables.specs.Replay.{without_first};
 
-// Where the first place stands that is behind this one.
+// Where the first place stands that is after this one.
 fn first_behind(places: &[usize], place: usize) -> Option<usize>
     ensures { result ≡ position (nat_lt place) places.now }
 {
@@ -46,7 +46,7 @@ fn remove_place(places: &mut Vec<usize>, place: usize)
     }
 }
 
-/// What is kept behind a change of the one at this place. Takes no memory.
+/// What is kept after a change of the one at this place. Takes no memory.
 pub(crate) fn put_place(places: &mut Vec<usize>, place: usize, was_due: bool, is_due: bool)
     requires { IsTrue (not was_due) → vec_len places.old < vec_capacity places.old }
     ensures indexed { places.new.items ≡ places_behind place was_due is_due places.old.items }
@@ -59,7 +59,7 @@ pub(crate) fn put_place(places: &mut Vec<usize>, place: usize, was_due: bool, is
     }
 }
 
-/// One more stands behind the others, at this place. Takes no memory.
+/// One more stands after the others, at this place. Takes no memory.
 pub(crate) fn push_place(places: &mut Vec<usize>, place: usize, is_due: bool)
     requires { vec_len places.old < vec_capacity places.old }
     ensures indexed { places.new.items ≡ if is_due then places.old.items ++ place ∷ [] else places.old.items }

@@ -28,7 +28,7 @@ have_lengths-push (a ∷ more) good r =
     ∙ regroup (list_all (has_length a) good) (has_length a r) (have_lengths more good)
     (list_all (λ asked. has_length asked r) more)
 
--- behind some records, which have the lengths asked for or not
+-- after some records, which have the lengths asked for or not
 pub record IsCheckedSoFar (known : List ℕ) (lengths : List (ℕ × ℕ)) (bytes : List ℕ) (fits : Bool) (before : Option ℕ)
     (rest : List ℕ) : Type 0 where
   pub good : List Record

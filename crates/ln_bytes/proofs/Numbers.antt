@@ -53,7 +53,7 @@ bytes_back k xs b l =
 
 -- ---- what is read is spelled so
 
--- one byte, or a number of k bytes behind a first byte
+-- one byte, or a number of k bytes after a first byte
 record IsLong (k least n len : ℕ) (rest : List ℕ) : Type 0 where
   enough : k ≤ length rest
   minimal : least ≤ n

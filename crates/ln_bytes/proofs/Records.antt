@@ -25,7 +25,7 @@ number_again : (n : ℕ) (rest : List ℕ) → n < 2 ^ 64 → (bigsize_at (bigsi
     × (drop (length (bigsize n)) (bigsize n ++ rest) ≡ rest)
 number_again n rest below = (is_again n rest below, drop_at (bigsize n) rest (length (bigsize n)) refl)
 
--- ---- behind a type
+-- ---- after a type
 
 pub record IsValue (known : List ℕ) (typ : ℕ) (bytes : List ℕ) (x : Record × List ℕ) : Type 0 where
   pub takes : Takes bytes (bigsize (length x.0.value) ++ x.0.value) x.1

@@ -145,7 +145,7 @@ unfolding records_at
 nothing_left zero known before = refl
 nothing_left (suc turns) known before = refl
 
--- what is read behind some records
+-- what is read after some records
 behind : List Record → Result (List Record) Fault → Result (List Record) Fault
 behind good read = read >>= λ others. Ok (good ++ others)
 
@@ -224,7 +224,7 @@ stream_faulty known bytes f h =
     ap (λ (x : List ℕ). records_at (length bytes) known None x) h.bytes_are ∙ p.is
     ∙ ap (behind h.good) (faulty_at p.left known (last_type None h.good) h.bad f h.some_left p.enough h.fault)
 
--- what is read as records behind others is spelled so
+-- what is read as records after others is spelled so
 finished : (turns : ℕ) (known bytes : List ℕ) (good : List Record) (before : Option ℕ) (rest : List ℕ)
     (rs : List Record) → IsSoFar known bytes good before rest → records_at turns known before rest ≡ Ok rs
     → Spells known (good ++ rs) bytes
@@ -247,7 +247,7 @@ finished (suc turns) known bytes good before (b ∷ rest) rs so e =
     ∙ ap (λ (x : List Record). good ++ x) (ok_is (first.0.0 ∷ others.0) rs others.2) in
     subst (λ (x : List Record). Spells known x bytes) whole all
 
--- what finds a fault behind some records has that fault
+-- what finds a fault after some records has that fault
 broken : (turns : ℕ) (known bytes : List ℕ) (good : List Record) (before : Option ℕ) (rest : List ℕ) (f : Fault)
     → IsSoFar known bytes good before rest → length rest ≤ turns → records_at turns known before rest ≡ Err f
     → HasFault known bytes f

@@ -12,7 +12,7 @@ abbrev pub Gives : {X Y E : Type 0} → (E → Option E → Type 0) → (X → Y
 Gives stands view said (Ok x) = said ≡ Ok (view x)
 Gives stands view said (Err e) = stands e (fault_of said) ⊎ (said ≡ Err e)
 
--- the same, and what is left behind a refusal
+-- the same, and what is left after a refusal
 abbrev pub Leaves : {X Y E : Type 0} → (E → Option E → Type 0) → (X → Y) → (E → Type 0) → Result Y E → Result X E
     → Type 0
 Leaves stands view left said (Ok x) = said ≡ Ok (view x)

@@ -12,7 +12,7 @@ bigsize n =
     else (if nat_lt n 65536 then 253 ∷ big_bytes 2 n
     else (if nat_lt n 4294967296 then 254 ∷ big_bytes 4 n else 255 ∷ big_bytes 8 n))
 
--- a number of k bytes behind the first byte, no less than least
+-- a number of k bytes after the first byte, no less than least
 abbrev pub long_at : ℕ → ℕ → List ℕ → Result (ℕ × ℕ) Fault
 long_at k least rest =
     if nat_lt (length rest) k then Err Truncated

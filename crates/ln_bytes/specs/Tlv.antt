@@ -81,7 +81,7 @@ pub record Spells (known_even : List ℕ) (rs : List Record) (bytes : List ℕ) 
 
 -- ---- the first fault
 
--- the length and the value behind a type, and what follows
+-- the length and the value after a type, and what follows
 unfoldable pub value_at : List ℕ → ℕ → List ℕ → Result (Record × List ℕ) Fault
 value_at known_even typ bytes = do
   len ← bigsize_at bytes
@@ -92,7 +92,7 @@ value_at known_even typ bytes = do
       )
       else Err TlvUnknownEven)
 
--- The record at the front of the bytes, behind one of the type before, and what follows it; or its
+-- The record at the front of the bytes, after one of the type before, and what follows it; or its
 -- first fault.
 unfoldable pub record_at : List ℕ → Option ℕ → List ℕ → Result (Record × List ℕ) Fault
 record_at known_even before bytes = do
@@ -104,7 +104,7 @@ abbrev pub last_type : Option ℕ → List Record → Option ℕ
 last_type before [] = before
 last_type before (r ∷ rs) = last_type (Some r.typ) rs
 
--- behind some records stands one that has this fault, its first
+-- after some records stands one that has this fault, its first
 pub record HasFault (known_even : List ℕ) (bytes : List ℕ) (f : Fault) : Type 0 where
   pub good : List Record
   pub bad : List ℕ

@@ -97,7 +97,7 @@ fn eight_bytes(rest: &[u8]) -> Result<(u64, usize), Fault>
 }
 
 /// Writes the number as a BigSize at the front of `out`, and says how many bytes it takes. The bytes
-/// behind it stay as they were.
+/// after it stay as they were.
 ///
 /// BOLT 1, "Fundamental Types". Takes no memory.
 pub fn write_bigsize(number: u64, out: &mut [u8; 9]) -> usize

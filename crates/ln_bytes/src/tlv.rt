@@ -92,7 +92,7 @@ fn has_length(lengths: &[(u64, usize)], typ: u64, value: &[u8]) -> bool
         .all(|asked| typ != asked.0 || value.len() == asked.1)
 }
 
-// The type and the value of the record at the front, behind one of the type before, and what follows it.
+// The type and the value of the record at the front, after one of the type before, and what follows it.
 #[tactic(auto, unfolding(crate::specs::Tlv::record_at))]
 fn front_record<'a>(
     known_even: &[u64],
@@ -110,7 +110,7 @@ fn front_record<'a>(
     Ok((typ, value, rest))
 }
 
-// The value behind a type, and what follows it.
+// The value after a type, and what follows it.
 #[tactic(auto, unfolding(crate::specs::Tlv::value_at))]
 fn front_value<'a>(
     known_even: &[u64],
@@ -183,7 +183,7 @@ pub fn append_tlvs(out: &mut Vec<u8>, records: &[Record]) -> Result<(), Fault>
     result
 }
 
-// Writes the records behind the bytes. Where memory is refused, some of their bytes may be there.
+// Writes the records after the bytes. Where memory is refused, some of their bytes may be there.
 fn put_records(out: &mut Vec<u8>, records: &[Record]) -> Result<(), Fault>
     ensures appends_the_stream { OnOk result (out.new.items ≡ out.old.items ++ stream_bytes records.now) }
     ensures has_fitting_records { OnOk result (AreFit records.now) }

@@ -65,7 +65,7 @@ fn number_in(bytes: &[u8], room: usize) -> Result<u64, Fault>
 }
 
 /// Writes the number as a `tu64` at the front of `out`, and says how many bytes it takes. The bytes
-/// behind it stay as they were. A number below 2^32 is so written as a `tu32` too.
+/// after it stay as they were. A number below 2^32 is so written as a `tu32` too.
 ///
 /// BOLT 1, "Fundamental Types". Takes no memory.
 pub fn write_tu64(number: u64, out: &mut [u8; 8]) -> usize

@@ -42,7 +42,7 @@ within fault (Ok x) a = a
 within fault (Err e) (inl m) = inl (m.0, inl m.1)
 within fault (Err e) (inr n) = inr n
 
--- the same, behind a test that passed
+-- the same, after a test that passed
 pub within_if : {A : Type 0} (b : Bool) (other : Refusal) (fault : Option Refusal) (r : Result A Refusal) → b ≡ true
     → Answers fault r → AnswersFault (if b then fault else Some other) r
 within_if true other fault r e a = within fault r a

@@ -15,7 +15,7 @@ use Rattle.ln_channel.specs.State.{State}
 use Rattle.ln_channel.specs.Base.{allowed, is_open, without_removed, based, based_stage}
 use Rattle.ln_channel.specs.Base.{based_link}
 
--- ---- nothing enters behind the base
+-- ---- nothing enters after the base
 
 pub between_none : (n m : ℕ) (us : List Update) → m - n ≡ 0 → between n m us ≡ []
 between_none n m us e = ap (λ i. take i (drop n us)) e

@@ -35,7 +35,7 @@ pub record End : Type 0 where
 abbrev pub StandsFor : End → End → Type 0
 StandsFor kept e = kept ≡ e
 
--- behind the opening
+-- after the opening
 abbrev pub no_readiness : Readiness
 no_readiness = record { short_id = None; ready_sent = false; ready_received = false }
 

@@ -1,4 +1,4 @@
--- The events of a channel end by number: those that were decided, and behind them the undecided ones in their order;
+-- The events of a channel end by number: those that were decided, and after them the undecided ones in their order;
 -- what was decided about HTLCs, and what became of those that were forwarded.
 use Rattle.std.specs.Prelude.{ℕ, ◌+◌, ◌^◌, List, [], ◌∷◌, ◌++◌, length, drop, filter, Bool, true, false, not}
 use Rattle.std.specs.Prelude.{◌&&◌, ◌||◌, ◌==◌, nat_lt, Option, Some, None, option_map, Result, Ok, Err, if◌then◌else◌}

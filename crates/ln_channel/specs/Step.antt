@@ -234,7 +234,7 @@ abbrev pub IsDone : Result Done Refusal → Handed → ConnectionState → Stage
 IsDone (Ok d) h l kept = (d.connection ≡ l) × StageStands kept d.stage × (all_of h ≡ d.outputs)
 IsDone (Err r) h l kept = ⊥
 
--- what is left of a stage behind a refusal: all of it, or nothing of an opening that fails
+-- what is left of a stage after a refusal: all of it, or nothing of an opening that fails
 abbrev pub IsLeft : Refusal → Stage → Stage → Type 0
 IsLeft r s kept = StageStands kept s ⊎ ((fails r ≡ true) × (is_saved s ≡ false) × StageStands kept stage.Gone)
 

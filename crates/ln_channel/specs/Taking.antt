@@ -38,7 +38,7 @@ use Rattle.ln_channel.specs.End.{settling, fee_sent}
 
 -- ---- channel_ready (BOLT 2, "The channel_ready Message")
 
--- the first one tells the point of commitment 1; a second one, or one behind the close, does nothing
+-- the first one tells the point of commitment 1; a second one, or one after the close, does nothing
 abbrev pub takes_ready : ChannelReady → End → End
 takes_ready m e =
     if e.readiness.ready_received || is_closed e then e
@@ -53,7 +53,7 @@ takes_ready m e =
 
 -- ---- updates (BOLT 2, "Normal Operation")
 
--- an add behind the peer's shutdown, or a fee once closing has begun
+-- an add after the peer's shutdown, or a fee once closing has begun
 abbrev pub late_fault : End → Update → Option Refusal
 late_fault e (update.Add a) = if e.closing.peer_shut then Some refusal.AddAfterShutdown else None
 late_fault e (update.Fulfil f) = None

@@ -218,7 +218,7 @@ impl Channel {
     /// Signs the peer's next commitment (BOLT 2, "Committing Updates So Far: `commitment_signed`").
     ///
     /// Errors: 40 before both sides have confirmed; 41 where a signature is unrevoked, 42 where nothing would be
-    /// new, 46 behind the last number; 60.
+    /// new, 46 after the last number; 60.
     fn sign<K: ChannelKeys>(&mut self, alloc: Global, keys: &K) -> Result<Outbox, Refusal>
         ensures makes { (e : End) → StandsFor self.old e
             → Makes (sign_row (K.signer keys.now) e) result self.old self.new }

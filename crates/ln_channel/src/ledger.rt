@@ -11,7 +11,7 @@ use std::marker::Model;
 /// The most events that a channel end has: 2^62 updates of either side, and the close.
 const MOST_DECIDED: u64 = (1 << 63) + 1;
 
-/// The events of a channel end by number: how many were decided, and the undecided ones behind them in their order;
+/// The events of a channel end by number: how many were decided, and the undecided ones after them in their order;
 /// what was decided about HTLCs of the peer's, and what became of own ones that forward others.
 #[derive(Drop)]
 pub struct EventLedger {
@@ -332,7 +332,7 @@ impl EventLedger {
     ghost use Rattle.std.specs.Prelude.{◌≡◌, ◌≤◌};
     ghost use Rattle.ln_channel.specs.Ledger.{most_decided};
 
-    /// So many decided events, 2^63 + 1 at most, and these undecided ones behind them; these decisions and results.
+    /// So many decided events, 2^63 + 1 at most, and these undecided ones after them; these decisions and results.
     /// Takes no memory.
     pub fn from_parts(
         decided: u64,

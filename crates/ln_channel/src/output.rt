@@ -30,7 +30,7 @@ pub enum Output {
     Closed(u64),
 }
 
-/// What is to be handed out: messages to the peer, and what is told behind them.
+/// What is to be handed out: messages to the peer, and what is told after them.
 #[derive(Drop)]
 pub struct Outbox {
     sent: Vec<Output>,

@@ -27,7 +27,7 @@ impl Channel {
     ghost use Rattle.ln_channel.specs.Taking.{shutdown_row, shuts_by_peer, answering};
     ghost use Rattle.ln_channel.specs.Taking.{fee_row, told_row, message_row, taken};
 
-    /// Takes `channel_ready` (BOLT 2, "The `channel_ready` Message"): a second one, or one behind the close, does
+    /// Takes `channel_ready` (BOLT 2, "The `channel_ready` Message"): a second one, or one after the close, does
     /// nothing.
     fn take_ready(&mut self, message: &ChannelReady)
         ensures ready { (e : End) → StandsFor self.old e → StandsFor self.new (takes_ready message.now e) }
@@ -40,7 +40,7 @@ impl Channel {
         self.dance.take_point(message.second_point);
     }
 
-    // Whether an update comes too late: an add behind the peer's shutdown, a fee once closing has begun.
+    // Whether an update comes too late: an add after the peer's shutdown, a fee once closing has begun.
     fn late_refusal(&self, update: &Update) -> Option<Refusal>
         ensures { (e : End) → StandsFor self.now e → result ≡ late_fault e update.now }
     {
@@ -89,7 +89,7 @@ impl Channel {
     /// Takes an update (BOLT 2, "Normal Operation").
     ///
     /// Errors: 21 before both sides have confirmed, where the peer has 2^62 updates, or for a fee once closing has
-    /// begun; 35 for an add behind the peer's shutdown; else those of `UpdateLog::receive`.
+    /// begun; 35 for an add after the peer's shutdown; else those of `UpdateLog::receive`.
     fn take_update(&mut self, alloc: Global, update: Update) -> Result<Outbox, Refusal>
         ensures makes { (e : End) → StandsFor self.old e → Makes (update_row update e) result self.old self.new }
         ensures same_channel { self.new.dance.channel ≡ self.old.dance.channel }
@@ -126,7 +126,7 @@ impl Channel {
     /// Takes a signature (BOLT 2, "Completing the Transition to the Updated State"): it is answered by the revocation,
     /// and what is newly held is told.
     ///
-    /// Errors: 21 before both sides have confirmed, or behind the last number; 31 for a wrong signature; 60.
+    /// Errors: 21 before both sides have confirmed, or after the last number; 31 for a wrong signature; 60.
     fn take_signature<K: ChannelKeys>(
         &mut self,
         alloc: Global,

@@ -1,4 +1,4 @@
--- The events of the moves: an end tells each, decides it once, and tells none behind its close.
+-- The events of the moves: an end tells each, decides it once, and tells none after its close.
 pub mod EventLists
 pub mod Decisions
 pub mod Undecided

@@ -127,7 +127,7 @@ ledger_behind (Err r) old = old
 abbrev pub notes : Command → Ends → Ends
 notes c p = record p { x = record p.x { ledger = ledger_behind (ledgered c p.x) p.x.ledger } }
 
--- of what was sent to an end, the first messages still come, behind the channel_reestablish that an end waits for
+-- of what was sent to an end, the first messages still come, after the channel_reestablish that an end waits for
 abbrev pub still_come : {A : Type 0} → ℕ → ConnectionState → List A → List A
 still_come n Down ms = ms
 still_come n AwaitingReestablish [] = []

@@ -80,7 +80,7 @@ shuts side false true = Shut side ∷ []
 shuts side false false = []
 shuts side true now = []
 
--- what is taken, then what the end, e before it and f behind it, makes of it in its turn
+-- what is taken, then what the end, e before it and f after it, makes of it in its turn
 abbrev pub moves_between : Role → Message → End → End → List Move
 moves_between side m e f = moves_taken side m ++ (closes side e.closing.closed f.closing.closed
     ++ shuts side e.closing.shut f.closing.shut)
@@ -113,7 +113,7 @@ abbrev pub all_moves : Signer → Signer → List Step → Ends → List Move
 all_moves a b [] p = []
 all_moves a b (s ∷ ss) p = moves_of a b s p ++ all_moves a b ss (happens a b s p)
 
--- what the machine is behind a list of moves
+-- what the machine is after a list of moves
 abbrev pub after_all : List Move → Option Machine → Option Machine
 after_all [] m = m
 after_all (move ∷ moves) m = after_all moves (after move m)

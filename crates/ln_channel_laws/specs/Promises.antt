@@ -129,7 +129,7 @@ SameReadiness x y = HasTakenReadiness x y × HasTakenReadiness y x
 abbrev pub ReadinessAgrees : Ends → Type 0
 ReadinessAgrees p = IsQuiet p → SameReadiness p.x p.y
 
--- ---- no add behind the own shutdown (BOLT 2, "Closing Initiation: shutdown")
+-- ---- no add after the own shutdown (BOLT 2, "Closing Initiation: shutdown")
 
 abbrev pub is_add : Message → Bool
 is_add (message.UpdateAddHtlc m) = true
@@ -139,7 +139,7 @@ abbrev pub is_shutdown : Message → Bool
 is_shutdown (message.Shutdown m) = true
 is_shutdown m = false
 
--- of messages in the order in which they were sent, an add stands behind no shutdown; shut: one was sent before them
+-- of messages in the order in which they were sent, an add stands after no shutdown; shut: one was sent before them
 abbrev pub AddsBefore : Bool → List Message → Type 0
 AddsBefore shut [] = Unit {0}
 AddsBefore shut (m ∷ ms) = (is_add m ≡ true → shut ≡ false) × AddsBefore (shut || is_shutdown m) ms

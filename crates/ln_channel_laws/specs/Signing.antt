@@ -69,7 +69,7 @@ pub record Signs (signer owner : Signer) (x y : End) (to_y : List Message) : Typ
 abbrev pub BothSign : Signer → Signer → Ends → Type 0
 BothSign a b p = Signs a b p.x p.y p.to_y × Signs b a p.y p.x p.to_x
 
--- ---- what is handed out in a step, by what the ends are behind it
+-- ---- what is handed out in a step, by what the ends are after it
 
 abbrev pub SignsAs : Signer → Signer → Role → Ends → CommitmentSigned → Type 0
 SignsAs a b Funder p m = SignsCovered a b p.x p.y m

@@ -66,7 +66,7 @@ abbrev pub all_told : Signer → Signer → Role → List Step → Ends → List
 all_told a b side [] p = []
 all_told a b side (s ∷ ss) p = told a b side s p ++ all_told a b side ss (happens a b s p)
 
--- ---- nothing comes behind the close
+-- ---- nothing comes after the close
 
 -- the events among what is handed out, without their numbers
 abbrev pub unnumbered : List Output → List ChannelEvent
@@ -82,7 +82,7 @@ is_closing (event.Added own id amount hash expiry onion) = false
 is_closing (event.Settled own id how) = false
 is_closing (event.Closed fee) = true
 
--- of events in their order, nothing stands behind a close: it is the last, and there is one at most
+-- of events in their order, nothing stands after a close: it is the last, and there is one at most
 abbrev pub ClosesLast : List ChannelEvent → Type 0
 ClosesLast [] = Unit {0}
 ClosesLast (e ∷ es) = (is_closing e ≡ true → es ≡ []) × ClosesLast es

@@ -36,7 +36,7 @@ pub fn held_was_covered()
         → Opens a b s c funder fundee → Headline (run a b steps (opened funder fundee)) }
 {}
 
-/// A law: every message that is delivered is taken, `channel_reestablish` and what is sent again behind it included,
+/// A law: every message that is delivered is taken, `channel_reestablish` and what is sent again after it included,
 /// but for a `closing_signed` whose fee can't be agreed to, which is refused as such (36) and as nothing else. The
 /// closing fees of both are below 2^64, as their numbers are sent in eight bytes.
 pub fn no_message_is_refused()
@@ -73,7 +73,7 @@ pub fn readiness_agrees_at_rest()
         → Opens a b s c funder fundee → ReadinessAgrees (run a b steps (opened funder fundee)) }
 {}
 
-/// A law: of all that an end has sent, over all its connections, no `update_add_htlc` stands behind a `shutdown`.
+/// A law: of all that an end has sent, over all its connections, no `update_add_htlc` stands after a `shutdown`.
 pub fn no_add_follows_a_shutdown()
     ensures { (a b : Signer) (s : OpenSpec) (c : Config) (funder fundee : Opened) (steps : List Step) → ArePartners a b
         → Opens a b s c funder fundee → NoneAddsLate (run a b steps (opened funder fundee)) }
@@ -103,7 +103,7 @@ pub fn ends_stay_as_set_up()
         (run a b steps (opened funder fundee)).y }
 {}
 
-/// A law of rows, not of whole calls: behind a link's looks at what has halted or failed, at what is passed over and at
+/// A law of rows, not of whole calls: after a link's looks at what has halted or failed, at what is passed over and at
 /// what is of another channel, what ln_channel's rows of an open channel with a connection answer to a message
 /// (`saved_at`), and to a command that isn't about records (`obeyed`), is what the steps say of the end
 /// (`message_at`, `command_at`). That `handled` and `commanded` of a link answer so is shown in ln_world_channels.
@@ -136,7 +136,7 @@ pub fn bases_are_the_longest()
 /// A law: each `commitment_signed` carries exactly the signature and the HTLC signatures that its end's keys give for
 /// the commitment that is next for the peer: its number, the peer's own point for that number, and the view of all
 /// that the end has covered by its last signature (BOLT 2, "Committing Updates So Far: commitment_signed"). So is each
-/// that an end hands out in a step, by a command or once more as a connection comes back, told of the ends behind that
+/// that an end hands out in a step, by a command or once more as a connection comes back, told of the ends after that
 /// step. And so is each in flight, whatever either end does meanwhile; once it is in front, the peer has the same
 /// updates to accept, as they were sent, which are worth the same to it.
 pub fn signatures_are_over_what_is_covered()

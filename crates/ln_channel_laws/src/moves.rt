@@ -31,7 +31,7 @@ pub fn moves_are_the_machines()
 {}
 
 /// A law: each of these moves is one that the machine may make where it is made. The opening is fit; an update has the
-/// next id, meets the limits, and is no add and no fee behind a shutdown; a signature covers something new, and none is
+/// next id, meets the limits, and is no add and no fee after a shutdown; a signature covers something new, and none is
 /// unrevoked before it; each update of a side that shuts down is acknowledged; and a side closes once, with both sides
 /// shut down, every commitment covering every update, and no HTLC live.
 pub fn each_move_may_be_made()
@@ -62,9 +62,9 @@ pub fn undecided_events_are_the_machines()
         (end_of_role side (run a b steps (opened funder fundee))) }
 {}
 
-/// A law: behind the event that an end's channel is closed comes no event: it is the last of those of the moves for its
+/// A law: after the event that an end's channel is closed comes no event: it is the last of those of the moves for its
 /// side, and of those that the end hands out over all steps. So an end closes once at most, and comes to hold no update
-/// behind its close (BOLT 2, "Closing Negotiation: closing_signed").
+/// after its close (BOLT 2, "Closing Negotiation: closing_signed").
 pub fn close_is_last()
     ensures of_the_moves { (a b : Signer) (s : OpenSpec) (c : Config) (funder fundee : Opened) (steps : List Step)
         (side : Role) → ArePartners a b → Opens a b s c funder fundee

@@ -87,7 +87,7 @@ answer_to c fee range =
     else (if nat_le c.fees.least fee && nat_le fee c.fees.greatest then Ok (answer.EchoAndClose fee)
     else counter c fee range)))
 
--- what a side keeps behind its answer to a fee
+-- what a side keeps after its answer to a fee
 abbrev pub after : ℕ → FeeAnswer → Closing → Closing
 after fee answer.Nothing c = c
 after fee (answer.Close agreed) c = record c { peer_fee = Some fee; closed = Some agreed }

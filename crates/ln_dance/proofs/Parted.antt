@@ -54,7 +54,8 @@ waits c s a above one e = both_hold _ _ (eq-eqb (c + 1) s e) (eq-eqb s (a + 1) (
 next_after : (c s a : ℕ) → a ≤ c → c ≤ s → s ≤ a + 1 → c + 1 ≢ s + 1 → c + 1 ≡ s
 next_after c s a above below one differ = omega (arith, above, below, one, differ)
 
-pub serves_signature : (c s a : ℕ) → a ≤ c → c ≤ s → s ≤ a + 1 → (c + 1 == s + 1) || ((c + 1 == s) && (s == a + 1)) ≡ true
+pub serves_signature : (c s a : ℕ) → a ≤ c → c ≤ s → s ≤ a + 1
+    → (c + 1 == s + 1) || ((c + 1 == s) && (s == a + 1)) ≡ true
 serves_signature c s a above below one = elim (eqb_tells (c + 1) (s + 1)) [
   | inl g ↦ first_holds _ _ g.0
   | inr g ↦ second_holds _ _ (waits c s a above one (next_after c s a above below one g.1))
@@ -217,7 +218,7 @@ signs_so x = record {
   point = refl;
 }
 
--- with other updates behind those that were signed
+-- with other updates after those that were signed
 with_lists : (x z : Dancer) (own got : List Update) → take z.log.signed.own own ≡ take z.log.signed.own z.log.own
     → take z.log.signed.peer got ≡ take z.log.signed.peer z.log.received → HasSigned x z
     → HasSigned x (with_log (record z.log { own = own; received = got }) z)

@@ -91,7 +91,7 @@ after_accept d = record d {
   later = Revocation;
 }
 
--- it is answered by the secret of the commitment before, and the point of the one behind
+-- it is answered by the secret of the commitment before, and the point of the one after
 abbrev pub revoked_message : Signer → Dancer → RevokeAndAck
 revoked_message keys d = record {
   channel_id = d.channel;

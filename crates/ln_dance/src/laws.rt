@@ -18,7 +18,7 @@ pub fn signature_is_accepted()
 {}
 
 /// A law: what `b` revoked at some moment its partner `a` learns whenever it is at that number, and then it has
-/// the point of the commitment behind the next one.
+/// the point of the commitment after the next one.
 pub fn revocation_is_learned()
     ensures learned { (a b : Signer) (x y : Dancer) (m : RevokeAndAck) → ArePartners a b → IsRevokedFor b y x
         → IsNumber y.numbers.commitment → owes x ≡ true → m ≡ revoked_message b y → learn_fault a m x ≡ None }

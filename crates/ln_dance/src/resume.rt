@@ -241,7 +241,7 @@ impl Dance {
         }
     }
 
-    // Puts the last signature behind what is sent again, where the peer waits for it, with the updates that it covers
+    // Puts the last signature after what is sent again, where the peer waits for it, with the updates that it covers
     // newly in front of it.
     fn put_signature<K: ChannelKeys>(
         &self,
@@ -261,7 +261,7 @@ impl Dance {
         Ok(())
     }
 
-    // Puts the last revocation behind what is sent again, where the peer waits for it.
+    // Puts the last revocation after what is sent again, where the peer waits for it.
     fn put_revocation<K: ChannelKeys>(
         &self,
         alloc: Global,
@@ -284,7 +284,7 @@ impl Dance {
     /// and the signature over what it covered first; where it waits for the last revocation, that one. Nothing
     /// changes.
     ///
-    /// 34 where the number of the next commitment is neither that behind the last signature nor, while this is
+    /// 34 where the number of the next commitment is neither that after the last signature nor, while this is
     /// unrevoked, its own; or where the number of revocations is neither that of the own commitment nor one less. It
     /// carries whose data is lost, where the peer's secret proves it. Then 32 where revocations were taken and the
     /// secret isn't that of the last one. 60 where there was no memory.

@@ -92,7 +92,7 @@ abbrev pub short_id_in : Option (List ℕ) → Result (Option (List ℕ)) Fault
 short_id_in None = Ok None
 short_id_in (Some value) = if length value == 8 then Ok (Some value) else Err FieldLength
 
--- a secret, and a truncated number behind it
+-- a secret, and a truncated number after it
 abbrev pub payment_in : Option (List ℕ) → Result (Option Payment) Fault
 payment_in None = Ok None
 payment_in (Some value) =

@@ -34,7 +34,7 @@ abbrev pub first_answer : List Verdict → Verdict
 first_answer [] = Continue
 first_answer (answer ∷ answers) = answer
 
--- its answers to the events behind that
+-- its answers to the events after that
 abbrev pub later_answers : List Verdict → List Verdict
 later_answers [] = []
 later_answers (answer ∷ answers) = answers

@@ -46,7 +46,7 @@ impl HookTable {
         }
     }
 
-    /// Puts a hook behind all others. Takes memory: where there was none the hook is handed back beside 60, and the
+    /// Puts a hook after all others. Takes memory: where there was none the hook is handed back beside 60, and the
     /// table is as it was.
     pub fn register(&mut self, hook: Hook) -> Result<(), (Hook, Refusal)>
         ensures appends_it { OnOk result (self.new.hooks.items ≡ self.old.hooks.items ++ hook ∷ []) }

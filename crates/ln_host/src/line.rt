@@ -46,7 +46,7 @@ pub enum Head<'a> {
 
 /// The line in which what a link hands out waits for its host: a record before all that it covers, then messages, then
 /// what is told. A host saves the record, fills the blanks, sends the messages, and acts on what is told, one after the
-/// other; what is behind a record leaves only after it.
+/// other; what is after a record leaves only after it.
 #[derive(Drop)]
 pub struct Line {
     record_waits: bool,

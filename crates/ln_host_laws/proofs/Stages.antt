@@ -39,7 +39,7 @@ use Rattle.ln_host_laws.specs.Filled.{filled_row}
 use Rattle.ln_host_laws.proofs.Filling.{told, host, turned_filled}
 use Rattle.ln_host_laws.proofs.Turns.{taken_filled, resume_filled, command_filled}
 
--- ---- behind faults
+-- ---- after faults
 
 faulted_filled : (k : Signer) (f : Option Refusal) (r s : Result Done Refusal) → filled_row k r ≡ s
     → filled_row k (faulted f r) ≡ faulted f s

@@ -247,7 +247,7 @@ owed_parts f r r' s s' p q =
     ap (map f) (owed_append r s) ∙ in_parts f (owed_again r) (owed_again r') (owed_again s) (owed_again s') p q
     ∙ sym (owed_append r' s')
 
--- the last signature, behind what it covers newly
+-- the last signature, after what it covers newly
 abbrev signature_if : Bool → Signer → Dancer → List Resend
 signature_if b k d = if b then updates_again d ++ resend.Signature (signature_again k d) ∷ [] else []
 

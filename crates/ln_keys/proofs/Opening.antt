@@ -92,7 +92,7 @@ next_begun bytes hash b more =
 begins-append : (bytes more : List ℕ) → Begins bytes → Begins (bytes ++ more)
 begins-append bytes more b = record { first = b.first; rest = b.rest ++ more; is = ap (λ l. l ++ more) b.is }
 
--- zeros behind the bytes are there already
+-- zeros after the bytes are there already
 filled-zeros : (bytes : List ℕ) (k : ℕ) → length bytes + k ≤ 1300 → filled (bytes ++ replicate k 0) ≡ filled bytes
 unfolding filled
 filled-zeros bytes k fits =

@@ -14,13 +14,13 @@ pub take-written : (at : ℕ) (ys xs : List ℕ) (n : ℕ) → at ≤ length xs 
 take-written at ys xs n fits e = take_at (take at xs ++ ys) (drop (at + length ys) xs) n
     (omega (arith, length-append (take at xs) ys, length-take-le at xs fits))
 
--- what stands behind it
+-- what stands after it
 pub drop-written : (at : ℕ) (ys xs : List ℕ) (n : ℕ) → at ≤ length xs → n ≡ at + length ys
     → drop n (written at ys xs) ≡ drop n xs
 drop-written at ys xs n fits e = drop_at (take at xs ++ ys) (drop (at + length ys) xs) n
     (omega (arith, length-append (take at xs) ys, length-take-le at xs fits)) ∙ ap (λ m. drop m xs) (sym e)
 
--- two writes, the second right behind the first
+-- two writes, the second right after the first
 pub written_twice : (at : ℕ) (ys zs xs : List ℕ) → at ≤ length xs
     → written (at + length ys) zs (written at ys xs) ≡ written at (ys ++ zs) xs
 written_twice at ys zs xs fits =

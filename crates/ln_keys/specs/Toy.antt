@@ -24,7 +24,7 @@ htlc_bytes h = owner_byte h.owner ∷ (to_be_bytes w64 h.id ++ to_be_bytes w64 h
     ++ to_be_bytes w32 h.expiry)
 
 -- The balances in eight bytes each, the feerate and the count of HTLCs in four each. The count starts again
--- at 0 behind 2 ^ 32 - 1.
+-- at 0 after 2 ^ 32 - 1.
 unfoldable pub view_head : View → List ℕ
 view_head v =
     to_be_bytes w64 v.funder ++ to_be_bytes w64 v.fundee ++ to_be_bytes w32 v.feerate

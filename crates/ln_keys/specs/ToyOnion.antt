@@ -29,7 +29,7 @@ filled bytes = bytes ++ replicate (1300 - length bytes) 0
 abbrev pub toy_packet : List ℕ → List ℕ → List ℕ
 toy_packet bytes hash = (0 ∷ toy_key) ++ filled bytes ++ toy_hmac (filled bytes) hash
 
--- a payload behind its length, and all of them one after the other
+-- a payload after its length, and all of them one after the other
 abbrev pub with_length : List ℕ → List ℕ
 with_length payload = bigsize (length payload) ++ payload
 

@@ -16,7 +16,7 @@ use std::alloc::{AllocError, Global};
 
 /// Onions whose payloads are readable by every hop.
 ///
-/// The packet has version 0, the key 02 and 32 zero bytes, the payloads one after the other, each behind its
+/// The packet has version 0, the key 02 and 32 zero bytes, the payloads one after the other, each after its
 /// length as a BigSize, zeros up to 1,300 bytes, and as HMAC the SHA-256 of these 1,300 bytes and the
 /// payment hash.
 #[derive(Clone, Copy, PartialEq, Eq)]
@@ -54,7 +54,7 @@ fn put(room: &mut [u8], at: usize, bytes: &[u8])
     room[at..at + bytes.len()].copy_from_slice(bytes);
 }
 
-/// The bytes, and zeros behind them.
+/// The bytes, and zeros after them.
 fn room_of(bytes: &[u8]) -> [u8; 1300]
     requires { length bytes.now ≤ 1300 }
     ensures { result ≡ filled bytes.now }
@@ -64,7 +64,7 @@ fn room_of(bytes: &[u8]) -> [u8; 1300]
     room
 }
 
-/// Version 0, the key, and room behind them.
+/// Version 0, the key, and room after them.
 fn headed() -> [u8; 1366]
     ensures { take 34 result ≡ 0 ∷ toy_key }
 {
@@ -83,7 +83,7 @@ fn packed(room: &[u8; 1300], hash: &[u8; 32]) -> [u8; 1366]
     packet
 }
 
-/// Writes a payload behind its length, where there is room, and says where it ends.
+/// Writes a payload after its length, where there is room, and says where it ends.
 fn place(room: &mut [u8; 1300], at: usize, payload: &[u8]) -> Option<usize>
     requires { at ≤ 1300 }
     ensures is_beyond_the_packet { IfNone result (1300 < at + length (with_length payload.now)) }
@@ -160,7 +160,7 @@ fn hop(alloc: Global, len: u64, bytes: &[u8], hash: &[u8; 32]) -> Result<Opened,
     Ok(Opened { payload, next })
 }
 
-/// The hop behind its length.
+/// The hop after its length.
 fn first_hop(alloc: Global, bytes: &[u8], hash: &[u8; 32]) -> Result<Opened, OpenFault>
     requires { length bytes.now ≤ 1300 }
     ensures found { IfOk result (λ o. hop_behind (bigsize_at bytes.now) bytes.now hash.now ≡ Ok o) }

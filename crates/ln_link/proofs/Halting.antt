@@ -105,7 +105,7 @@ call_one keys Halt l k s t h has = as_before l l s t h.1 has
 
 -- ---- all calls
 
--- behind a halt nothing is saved
+-- after a halt nothing is saved
 all_still : {K : Type 0} (keys : Signer) (cs : List Call) (l n : State K) (s t : StoreView) → Lead keys cs l s n t
     → l.halted ≡ true → t ≡ s
 all_still keys [] l n s t h halted = h.1

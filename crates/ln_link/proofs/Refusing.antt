@@ -42,7 +42,7 @@ by_parts r keys connection true failure s = refl
 by_parts r keys connection false (Some x) s = refl
 by_parts r keys connection false None s = by_refusal r keys connection s (fails r)
 
--- a link fails now where it has failed behind the refusal, and had not before
+-- a link fails now where it has failed after the refusal, and had not before
 pub failing : {K : Type 0} (r : Refusal) (l : State K)
     → (is_failing (refused r l) && is_none l.failure) ≡ fails_now r l
 failing r l = by_parts r l.keys l.connection l.halted l.failure l.stage

@@ -1,4 +1,4 @@
--- A call of a link that is saved behind what it did, where it has to be.
+-- A call of a link that is saved after what it did, where it has to be.
 use Rattle.std.proofs.Common.{◌≡◌, ◌∙◌, ap, subst, sym, List, Bool, true, false, not, ◌&&◌, Option, Result, Ok, Err}
 use Rattle.std.proofs.Common.{inr}
 use Rattle.ln_msgs.specs.declared.messages.message.Message.{Message}

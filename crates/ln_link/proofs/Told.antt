@@ -34,7 +34,7 @@ unfolding AreBelow
 below_more n m [] a h le lt = (lt, tt)
 below_more n m (b ∷ adds) a h le lt = (omega (arith, h.0, le), below_more n m adds a h.1 le lt)
 
--- an HTLC of a greater id stands behind all
+-- an HTLC of a greater id stands after all
 last_place : (n id : ℕ) (adds : List Add) → AreBelow n adds → n ≤ id → place_in id adds ≡ length adds
 unfolding AreBelow
 last_place n id [] h le = refl

@@ -262,7 +262,7 @@ view_so Fundee t c h =
 
 -- ---- all views
 
--- what is lawful of the lists that are written down is lawful behind the base
+-- what is lawful of the lists that are written down is lawful after the base
 behind_so : (t : RecordForm) (c : Counts) → IsRestorable t → t.first.own ≤ c.own → t.first.peer ≤ c.peer
     → IsLawful t.opening t.role (covered (written t) c) → IsLawfulBehind t c
 behind_so t c h own peer v =

@@ -1,4 +1,4 @@
--- The calls of one link over one store, one behind the other, and what the store has of it.
+-- The calls of one link over one store, one after the other, and what the store has of it.
 use Rattle.std.specs.Prelude.{◌≡◌, ◌⊎◌, ◌++◌, ℕ, List, [], ◌∷◌, true, false, Option, Some, None, Result, Ok, Err}
 use Rattle.std.specs.FinMap as map
 use Rattle.ln_msgs.specs.declared.messages.message.Message.{Message}

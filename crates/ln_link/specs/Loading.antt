@@ -192,7 +192,7 @@ abbrev pub place_in : ℕ → List Add → ℕ
 place_in id [] = 0
 place_in id (a ∷ adds) = if nat_le a.id id then place_in id adds + 1 else place_in id adds
 
--- the live HTLCs of a side, behind these and by their ids: a record may have them in any order
+-- the live HTLCs of a side, after these and by their ids: a record may have them in any order
 abbrev pub live_htlcs_from : Role → List Add → List LiveHtlc → List Add
 live_htlcs_from side adds [] = adds
 live_htlcs_from side adds (h ∷ hs) = live_htlcs_from side

@@ -55,7 +55,7 @@ header_of failure e =
 
 -- ---- what both sides agreed on
 
--- the bytes of a message behind its type
+-- the bytes of a message after its type
 unfoldable pub payload_of : Wire → List ℕ
 payload_of w = drop 2 (wire_bytes w)
 
@@ -97,7 +97,7 @@ base_of t = record {
   live = live_htlcs_of t.role t.own_live_htlcs t.peer_live_htlcs;
 }
 
--- those behind them, one by one
+-- those after them, one by one
 abbrev pub window_of : Role → List Update → List Update → Window
 window_of Funder own received = record { funder = own; fundee = received }
 window_of Fundee own received = record { funder = received; fundee = own }
@@ -151,7 +151,7 @@ items_of failure e = record {
 
 -- ---- which ends have no record
 
--- a message whose records may not stand behind its fields, or that is longer than a message may be
+-- a message whose records may not stand after its fields, or that is longer than a message may be
 abbrev pub IsUnwritable : Wire → Type 0
 IsUnwritable w = ¬ CanBeWritten w ⊎ (longest < length (wire_bytes w))
 

@@ -195,7 +195,7 @@ abbrev pub HaltsEarly : {K : Type 0} → Bool → Refusal → Result Done Refusa
 HaltsEarly views e said l new before behind =
     LacksBy views e (fault_of said) × IsHalted l new × (behind ≡ before)
 
--- by want of memory, or of a save, it halts behind what was done
+-- by want of memory, or of a save, it halts after what was done
 abbrev pub HaltsBehind : {K : Type 0} → (List Output → Option Side) → Refusal → Result Done Refusal → State K → State K
     → StoreView → StoreView → Type 0
 HaltsBehind brings e (Ok d) l new before behind = HaltsAnswered (brings d.outputs) e (reached d l) new before behind

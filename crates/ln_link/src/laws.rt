@@ -13,7 +13,7 @@ ghost use Rattle.ln_link.specs.Calls.{Call, Lead, HasLink, HasChannel, HaltsWith
 
 use ln_keys::ChannelKeys;
 
-/// An end has the same record before and behind a lost connection.
+/// An end has the same record before and after a lost connection.
 pub fn lost_connection_is_recorded()
     ensures { (failure : Option Refusal) (e : End) → items_of failure (end_dropped e) ≡ items_of failure e }
 {}

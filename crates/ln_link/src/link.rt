@@ -296,7 +296,7 @@ impl<K: ChannelKeys + Drop> Link<K> {
     }
 
     /// The events that its end hasn't decided, each with its number, in their order: `ChannelMachine::pending_events`.
-    /// They are what a dispatcher begins with, also behind a restart. Takes memory for them; 60 where there is none,
+    /// They are what a dispatcher begins with, also after a restart. Takes memory for them; 60 where there is none,
     /// and nothing has changed.
     pub fn pending_events(&self, alloc: Global) -> Result<Vec<(u64, ChannelEvent)>, Refusal>
         ensures events { (l : State K) → StandsFor self.now l → IfOk result (λ v. v.items ≡ pending_at l.stage) }

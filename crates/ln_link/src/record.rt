@@ -272,7 +272,7 @@ fn peer_updates(alloc: Global, log: &UpdateLog) -> Result<Vec<Update>, Refusal>
     copy_updates(alloc, log.between(Side::Peer, log.first(Side::Peer), count))
 }
 
-// The updates that signatures cover: a base, and those behind it.
+// The updates that signatures cover: a base, and those after it.
 fn updates_of(alloc: Global, channel: &Channel) -> Result<Updates, Refusal>
     ensures updates { (e : End) → end.StandsFor channel.now e
         → IfOk result (λ u. u ≡ updates_of (opening_of e.terms) e.closing.role

@@ -59,7 +59,7 @@ fn deliver(alloc: Global, x: &mut End, y: &mut End) -> Result<String, AllocError
     }
 }
 
-/// The same where there is one, behind the end's name.
+/// The same where there is one, after the end's name.
 fn put_taken(alloc: Global, text: &mut String, x: &mut End, y: &mut End) -> Result<(), AllocError> {
     if x.inbox.is_empty() {
         return Ok(());
@@ -105,7 +105,7 @@ fn load(alloc: Global, x: &mut End, y: &mut End) -> Result<String, AllocError> {
     }
 }
 
-/// Bytes that are given in parts, behind a channel's id, take the place of an end's record: how many.
+/// Bytes that are given in parts, after a channel's id, take the place of an end's record: how many.
 fn store(alloc: Global, x: &mut End, y: &mut End, words: &[&str]) -> Result<String, AllocError> {
     let Some(bytes) = bytes_of_parts(alloc, text_at(words, "bytes"))? else {
         return String::from_str(alloc, "not hex");

@@ -184,7 +184,7 @@ module _ (k : Signer) (keys : AreKeys k) where
   drops_stands l (inl h) = inl (halted_drops k l h)
   drops_stands l (inr g) = inr (drops_lasts k keys l g)
 
-  -- ---- calls, one behind the other
+  -- ---- calls, one after the other
 
   leads_stand : {K : Type 0} (c : Call) (l n : State K) (s t : StoreView) → IsCall c → Stands l → Leads k c l s n t
       → Stands n

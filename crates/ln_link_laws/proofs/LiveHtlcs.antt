@@ -61,7 +61,7 @@ pub same_live_htlcs : (side : Role) (live : List LiveHtlc)
     → AreSame (as_offered (live_htlcs_in side live)) (live_htlcs_of side live)
 same_live_htlcs side live f = live_htlcs_sum f side [] live ∙ omega arith
 
--- and so with any updates behind them
+-- and so with any updates after them
 behind_same : (us vs ws : List Update) → AreSame us vs → AreSame (us ++ ws) (vs ++ ws)
 behind_same us vs ws h f =
     sum_by-append f us ws ∙ ap (λ n. n + sum_by f ws) (h f) ∙ sym (sum_by-append f vs ws)

@@ -174,7 +174,7 @@ peer_length t h =
 
 -- ---- which HTLCs are live
 
--- those that are live behind the first updates, and the rest
+-- those that are live after the first updates, and the rest
 live_htlcs_at : (m n a b : ℕ) (us rs : List Update)
     → ((id : ℕ) → next_id (take m us) ≤ id → outcome id (take n rs) ≡ Live)
     → AreNumbered (next_id (take m us)) (drop m us) → m ≤ a → n ≤ b

@@ -42,7 +42,7 @@ use Rattle.ln_link_laws.specs.Records.{opening_in, told_by, HasLog, IsExplained,
 use Rattle.ln_link_laws.specs.Records.{IsFromOpening}
 use Rattle.ln_link_laws.proofs.LiveHtlcs.{same_live_htlcs, same_total, is_offered, none_live}
 
--- of tests one behind the other each one
+-- of tests one after the other each one
 
 three : (a b c : Bool) → (a && b && c) ≡ true → (a ≡ true) × (b ≡ true) × (c ≡ true)
 three a b c h =

@@ -27,7 +27,7 @@ use Rattle.ln_channel_laws.proofs.Offered.{All, all-append, all-take, all-drop, 
 use Rattle.ln_link_laws.proofs.UpdateForms.{also, list_fits}
 use Rattle.ln_link_laws.proofs.ItemForms.{AreSides, IsLive, base_fits, pairs_fit}
 
--- ---- what wide updates leave behind
+-- ---- what wide updates leave after
 
 offered_wide : (u : Update) → IsUpdate u → Where IsAdd (offered u)
 offered_wide (update.Add a) h = h

@@ -14,7 +14,7 @@ use Rattle.ln_store.specs.Items as it
 use Rattle.ln_channel_laws.specs.Widths.{IsOrigin, IsAdd, IsFulfil, IsFail, IsMalformed, IsUpdate}
 use Rattle.ln_channel_laws.proofs.Offered.{All}
 
--- one form behind another
+-- one form after another
 pub also : {a b : Bool} → a ≡ true → b ≡ true → (a && b) ≡ true
 also {a} {b} p q = and_from a b p q
 

@@ -51,7 +51,7 @@ Begins keys l = (l ≡ begun l.keys l.stage) × BeginsAt keys l.stage
 
 -- ---- how it comes back
 
--- what the store tells of a link: how it stands, or, where the save behind one more call failed, what that made of it
+-- what the store tells of a link: how it stands, or, where the save after one more call failed, what that made of it
 abbrev pub IsTold : {K : Type 0} → Signer → State K → State K → Type 0
 IsTold keys l told = (told ≡ l) ⊎ ((c : Call) × (s : StoreView) × IsCall c × (told ≡ made_by keys c l s))
 
@@ -67,14 +67,14 @@ pub record Returns {K : Type 0} (keys : Signer) (l back : State K) : Type 0 wher
   pub is_told : IsTold keys l told
   pub returns : ComesBack told back
 
--- calls, and behind them a restart, one after the other
+-- calls, and after them a restart, one after the other
 abbrev pub Epochs : {K : Type 0} → Signer → List (List Call) → State K → State K → Type 0
 Epochs keys [] l l' = l' ≡ l
 Epochs keys (cs ∷ epochs) l l' =
     (k : State _) × (back : State _) × (s : StoreView) × (t : StoreView) × AreCalls cs × Lead keys cs l s k t
     × Returns keys k back × Epochs keys epochs back l'
 
--- a link as it stands behind its beginning, any epochs, and further calls
+-- a link as it stands after its beginning, any epochs, and further calls
 pub record IsLink {K : Type 0} (keys : Signer) (l : State K) : Type 0 where
   pub first : State K
   pub begins : Begins keys first

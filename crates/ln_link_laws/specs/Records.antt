@@ -25,11 +25,11 @@ told_by i = told_in (opening_in i) i.header.role i.updates
 abbrev pub HasLog : Items → Type 0
 HasLog i = TellsLog (opening_in i) i.header.role i.updates
 
--- no HTLC behind the base is of more than all funds
+-- no HTLC after the base is of more than all funds
 abbrev pub AreWithinFunds : RecordForm → Type 0
 AreWithinFunds t = AreWithin (1000 * t.opening.satoshis) t.own × AreWithin (1000 * t.opening.satoshis) t.received
 
--- no more was pushed than all funds, updates may lead to the base, and no HTLC behind it is of more than all funds
+-- no more was pushed than all funds, updates may lead to the base, and no HTLC after it is of more than all funds
 pub record IsExplained (t : RecordForm) : Type 0 where
   pub push : t.opening.push ≤ 1000 * t.opening.satoshis
   pub base : MayBeLedTo t.opening t.role t.first t.balances t.own_live_htlcs t.peer_live_htlcs
@@ -50,7 +50,7 @@ first_base o = record {
   live = [];
 }
 
--- the base is that of the opening, and no HTLC behind it is of more than all funds
+-- the base is that of the opening, and no HTLC after it is of more than all funds
 pub record IsFromOpening (i : Items) : Type 0 where
   pub base : i.updates.base ≡ first_base (opening_in i)
   pub amounts : AreWithinFunds (told_by i)

@@ -20,7 +20,7 @@ ghost use Rattle.ln_link_laws.specs.Records.{told_by, HasLog, IsExplained, both_
 use ln_keys::ChannelKeys;
 
 /// A law: no save answers 70. A link that was begun with a config or a spec that fits, and is handed messages that can
-/// be read and commands as wide as in code, never answers 70 and never halts by it, also behind any restarts from its
+/// be read and commands as wide as in code, never answers 70 and never halts by it, also after any restarts from its
 /// record: its end always has a record.
 pub fn no_save_is_damaged<K: ChannelKeys>()
     ensures { (keys : Signer) (c : Call) (l l' : State K) (s s' : StoreView) → AreKeys keys → IsLink keys l → IsCall c
@@ -41,7 +41,7 @@ pub fn toy_keys_are_wide()
 {}
 
 /// A law: of a readable record a log can be restored exactly where no more was pushed than all funds, updates may lead
-/// to its base, and no HTLC behind that is of more than all funds. All else that a log asks is asked of a readable
+/// to its base, and no HTLC after that is of more than all funds. All else that a log asks is asked of a readable
 /// record: the funds, the counts, ids that go on, and the views of the three commitments. Where no update is in the
 /// base, that is where the base is the opening's and no HTLC is of more than all funds.
 pub fn readable_records_tell_logs()

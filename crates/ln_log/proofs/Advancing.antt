@@ -165,7 +165,7 @@ advanced k m l to own own_new own_live own_rest own_list peer peer_new peer_live
 
 -- ---- where it can be a base, it is found to be one
 
--- what is live behind more is live in the rest
+-- what is live after more is live in the rest
 pub live_rest : (id : ℕ) (q v : List Update) → outcome id (q ++ v) ≡ Live → outcome id v ≡ Live
 live_rest id q v e =
     sym (outcome-append id q v ∙ ap (λ o. cond (is_live o) (outcome id v) o) (live_before id q v e)) ∙ e

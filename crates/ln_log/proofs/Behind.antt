@@ -25,7 +25,7 @@ use Rattle.ln_log.proofs.Removing.{outcome-append, next-cons, number_is, above}
 use Rattle.ln_log.proofs.Tallies.{amount, weight, tally, total_is, tally-append}
 use Rattle.ln_log.proofs.Totals.{any_same}
 
--- ---- HTLCs that were offered behind a beginning
+-- ---- HTLCs that were offered after a beginning
 
 abbrev pub IsLiveIn : Option Add → List Update → Type 0
 IsLiveIn None q = Unit {0}
@@ -125,7 +125,7 @@ spent_behind p w q v = omega (
   any_same w (q ++ v) v,
 )
 
--- what a side has behind its balance by then, beside the HTLCs that were live
+-- what a side has after its balance by then, beside the HTLCs that were live
 pub balance_is : (first : ℕ) (p w q v : List Update) → AreLiveIn w q → AreLiveIn v p → Pays first p q
     → balance first (p ++ w) (q ++ v)
     ≡ balance_behind (balance first p q) (live_htlcs p q) w (live_htlcs q p) v

@@ -1,4 +1,4 @@
--- A table of HTLCs behind one more update.
+-- A table of HTLCs after one more update.
 use Rattle.std.proofs.Common.{◌≡◌, ℕ, List, [], ◌∷◌, ◌++◌, refl, sym, ap, ◌∙◌, subst, arith, Bool, true, false}
 use Rattle.std.proofs.Common.{cond, Option, Some, None, ◌==◌, inl, inr, ◌+◌, ◌<◌, take, length, get_or, append_assoc}
 use Rattle.std.proofs.lemmas.Bool.Decides.{eqb_tells, nat_tests}

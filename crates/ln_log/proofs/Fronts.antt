@@ -1,4 +1,4 @@
--- The lists that are kept behind a base: what of them a call is handed, and single HTLCs in them.
+-- The lists that are kept after a base: what of them a call is handed, and single HTLCs in them.
 use Rattle.std.proofs.Common.{◌≡◌, ℕ, ◌+◌, ◌-◌, ◌≤◌, List, [], ◌∷◌, ◌++◌, length, take, drop, refl, sym}
 use Rattle.std.proofs.Common.{ap, ◌∙◌, subst, arith, Bool, true, false, cond, Option, Some, None, inl, inr}
 use Rattle.std.proofs.Common.{append_assoc}
@@ -25,7 +25,7 @@ use Rattle.ln_log.proofs.Behind.{AreLiveIn, live_in, found, outcome_kept}
 
 -- ---- slices
 
--- a beginning of a list behind others
+-- a beginning of a list after others
 pub cut_at : (live f n : ℕ) (xs us : List Update) → live ≡ length xs → f ≤ n
     → take (live + (n - f)) (xs ++ drop f us) ≡ xs ++ drop f (take n us)
 cut_at live f n xs us e le =
@@ -72,7 +72,7 @@ removable_one Failed ow x y h = ap (λ z. cond (is_live ow) z None) (h refl) ∙
 pub not_live : (o : Outcome) → is_live o ≡ false → o ≡ Live → ⊥
 not_live o e f = let is : false ≡ true = sym e ∙ ap is_live f in cc
 
--- what a base removes isn't offered behind it
+-- what a base removes isn't offered after it
 pub gone_before : (id : ℕ) (p q v : List Update) → AreNumbered (next_id q) v
     → ((i : ℕ) → next_id q ≤ i → outcome i p ≡ Live) → is_live (outcome id p) ≡ false → add_with id v ≡ None
 gone_before id p q v ids new e = elim (leb_tells (next_id q) id) [
@@ -111,7 +111,7 @@ live_first Live n e = refl
 live_first Fulfilled n e = e
 live_first Failed n e = e
 
--- what is live behind more is live before
+-- what is live after more is live before
 pub live_before : (id : ℕ) (q m : List Update) → outcome id (q ++ m) ≡ Live → outcome id q ≡ Live
 live_before id q m e = live_first (outcome id q) (outcome id m) (sym (outcome-append id q m) ∙ e)
 

@@ -209,7 +209,7 @@ fault_held l r b e g h = ap (λ t. cond t (Some (refusal.PeerLimit rule.NoSuchHt
     (cond (is_none (add_with r.id (take l.acknowledged.peer l.received))) (Some refusal.NotCommitted) None)) g
     ∙ ap (λ t. cond t (Some refusal.NotCommitted) None) h
 
--- of two lists one behind the other, where none of the second is of what the first has no more
+-- of two lists one after the other, where none of the second is of what the first has no more
 found_in : (o : Outcome) (x y : Option Add) → (is_live o ≡ false → y ≡ None)
     → or_else (cond (is_live o) x None) y ≡ cond (is_live o) (or_else x y) None
 found_in Live x y h = refl
@@ -289,14 +289,14 @@ update_peer side.Peer k m l n o ks v e s ek eo =
     eo ∙ peer_update k l n ks (subst (λ y. IsWindowOf y l) (sym v) s) ek
     ∙ ap (λ (y : Kept). update_at y.first.peer l.received n) v
 
--- what is behind the base removes nothing that the base removes
+-- what is after the base removes nothing that the base removes
 
 not_gone_front : (q us : List Update) (n : ℕ) → AreNotGone q us → AreNotGone q (take n us)
 not_gone_front q us zero h = tt
 not_gone_front q [] (suc n) h = tt
 not_gone_front q (u ∷ us) (suc n) h = (h.0, not_gone_front q us n h.1)
 
--- behind a beginning of the list that the base begins
+-- after a beginning of the list that the base begins
 fresh_behind : (adds us : List Update) (f m : ℕ) → f ≤ m → AreRemovals adds [] us
     → AreNotGone (take f us) (drop m us)
 fresh_behind adds us f m le h =

@@ -29,7 +29,7 @@ use Rattle.ln_log.proofs.Removing.{removals-take, removals-drop, removals-more, 
 use Rattle.ln_log.proofs.Totals.{sums, first_sum, longer, pays_longer, pays_all, pays_more}
 use Rattle.ln_log.proofs.Standings.{MayAdd, own_moves, own_pays, all_step}
 
--- the standing of a side that offered own, moved by all that is taken behind m updates of the other side's
+-- the standing of a side that offered own, moved by all that is taken after m updates of the other side's
 pub record Settling (f g : ℕ) (own adds held got : List Update) (m : ℕ) : Type 0 where
   pub ids : AreNumbered 0 own
   pub found : (i : ℕ) → is_some (add_with i adds) ≡ true → add_with i own ≡ add_with i adds
@@ -515,7 +515,7 @@ paid_fits : (s : Standing) (o : Option Add) → (paid_by s o).balance < 2 ^ 64 �
 paid_fits s None h = tt
 paid_fits s (Some a) h = h
 
--- a side that stands so behind own may propose u
+-- a side that stands so after own may propose u
 pub record Growing (lim : Limits) (f g : ℕ) (own seen held : List Update) : Type 0 where
   pub own_ids : AreNumbered 0 own
   pub seen_ids : AreNumbered 0 seen

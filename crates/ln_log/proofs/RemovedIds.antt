@@ -1,4 +1,4 @@
--- The ids of HTLCs that updates remove, one update behind the other.
+-- The ids of HTLCs that updates remove, one update after the other.
 use Rattle.std.proofs.Common.{◌≡◌, ◌≢◌, ℕ, List, [], ◌∷◌, ◌++◌, refl, sym, ap, ◌∙◌, subst, inl, inr, Bool, true, false}
 use Rattle.std.proofs.Common.{cond, not, eqb, Some, None, Ordering, Less, Equal, Greater}
 use Rattle.std.proofs.lemmas.Bool.Decides.{eqb_tells}
@@ -39,7 +39,7 @@ live_is Live e = refl
 live_is Fulfilled e = absurd (cc)
 live_is Failed e = absurd (cc)
 
--- behind an update that removes it an HTLC isn't live
+-- after an update that removes it an HTLC isn't live
 gone_by : (id : ℕ) (us : List Update) (u : Update) (r : Removal) → removed u ≡ Some r → eqb r.id id ≡ true
     → (b : Bool) → is_live (outcome id us) ≡ b → is_live (outcome id (us ++ u ∷ [])) ≡ false
 gone_by id us u r e same true live =

@@ -203,7 +203,7 @@ same_kept k j e1 e2 e3 e4 e5 e6 e7 e8 e9 e10 e11 e12 e13 e14 = λ i. record {
 
 -- ---- the log
 
--- without its live HTLCs what is kept is the updates behind the base
+-- without its live HTLCs what is kept is the updates after the base
 behind_live_htlcs : (adds : List Add) (us : List Update) → drop (length adds) (as_offered adds ++ us) ≡ us
 behind_live_htlcs adds us = rest_is (length adds) (as_offered adds) us (length-map adds (λ a. update.Add a))
 

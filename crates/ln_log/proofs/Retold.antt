@@ -46,9 +46,9 @@ use Rattle.ln_log.proofs.Explained.{flies_all, is_led}
 use Rattle.ln_log.proofs.Written.{removals-append, numbered-append}
 use Rattle.ln_log.proofs.Leading.{leads}
 
--- ---- removals behind a base
+-- ---- removals after a base
 
--- what p removes of q is found neither among its live HTLCs nor behind it
+-- what p removes of q is found neither among its live HTLCs nor after it
 dead_none : (id : ℕ) (p q v : List Update) → AreNumbered (next_id q) v
     → ((i : ℕ) → next_id q ≤ i → outcome i p ≡ Live) → is_live (outcome id p) ≡ false
     → is_some (add_with id (live_htlcs q p ++ v)) ≡ false
@@ -102,7 +102,7 @@ back_removals p q v before (u ∷ us) h = (
       (subst (λ b. AreRemovals (q ++ v) b us) (append_assoc p before (u ∷ [])) h.1),
 )
 
--- of all updates those behind a base
+-- of all updates those after a base
 removals_behind : (p w q v : List Update) → AreRemovals (q ++ v) [] (p ++ w) → AreRemovals (live_htlcs q p ++ v) [] w
 removals_behind p w q v h = back_removals p q v [] w
     (subst (λ b. AreRemovals (q ++ v) b w) (take-append_seam p w ∙ sym (append-nil p))
@@ -171,7 +171,7 @@ goes_behind l n c closed own peer = record {
   peer_ids = numbered-take (next_id (take n.peer l.received)) (c.peer - n.peer) (drop n.peer l.received) peer;
 }
 
--- a view behind the base is lawful, and so it is by whole lists
+-- a view after the base is lawful, and so it is by whole lists
 lawful_whole : (l : Log) (n c : Counts) → IsRestorable (record_form_of n l) → LeadsTo n l → n.own ≤ c.own
     → n.peer ≤ c.peer
     → IsLawfulBehind (record_form_of n l) c → IsLawful l.opening l.role (covered l c)

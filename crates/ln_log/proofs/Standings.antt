@@ -211,7 +211,7 @@ removed_fits first own peer u x a ids e gone none found live h bound =
 
 -- ---- each kind of update of a side
 
--- what a further update of a side needs, behind own and with seen of the other side's
+-- what a further update of a side needs, after own and with seen of the other side's
 abbrev pub MayAdd : ℕ → List Update → List Update → Update → Type 0
 MayAdd first own seen (update.Add a) = (outcome a.id seen ≡ Live) × (a.amount ≤ balance first own seen)
 MayAdd first own seen (update.Fulfil f) = Unit {0}
@@ -281,7 +281,7 @@ own_pays first own seen (update.Fee f) ids h may pays =
 
 -- ---- each kind of update of the other side
 
--- what it asks of the lists behind which it is covered
+-- what it asks of the lists after which it is covered
 pub record Covers (first : ℕ) (own adds peer : List Update) : Type 0 where
   pub ids : AreNumbered 0 own
   pub found : (i : ℕ) → is_some (add_with i adds) ≡ true → add_with i own ≡ add_with i adds

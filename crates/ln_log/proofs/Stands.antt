@@ -252,7 +252,7 @@ peer_first : (kept : Kept) (l : Log) → IsWindowOf kept l → kept.first.peer �
 peer_first kept l s =
     let w = s.is_kept.within in omega (arith, s.first_peer, w.peer_acknowledged, w.peer_signed, w.peer_current)
 
--- one more behind others
+-- one more after others
 pushed : (xs us ys : List Update) (n : ℕ) (u : Update) → n ≤ length us → ys ≡ xs ++ drop n us
     → ys ++ u ∷ [] ≡ xs ++ drop n (us ++ u ∷ [])
 pushed xs us ys n u le e = ap (λ x. x ++ u ∷ []) e ∙ append_assoc xs (drop n us) (u ∷ [])

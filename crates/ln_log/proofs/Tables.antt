@@ -1,4 +1,4 @@
--- What is noted of HTLCs behind one more update.
+-- What is noted of HTLCs after one more update.
 use Rattle.std.proofs.Common.{◌≡◌, ℕ, List, [], ◌∷◌, ◌++◌, refl, sym, ap, ◌∙◌, subst, false, cond, Option, Some, None}
 use Rattle.std.proofs.Common.{inl, inr, true}
 use Rattle.std.specs.Prelude.{is_some}

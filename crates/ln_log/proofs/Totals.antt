@@ -1,4 +1,4 @@
--- Each add is live, failed or fulfilled, and so a view adds up; and what a side can pay it can pay behind
+-- Each add is live, failed or fulfilled, and so a view adds up; and what a side can pay it can pay after
 -- more of the other side's updates.
 use Rattle.std.proofs.Common.{◌≡◌, ℕ, ◌+◌, ◌*◌, ◌≤◌, List, [], ◌∷◌, ◌++◌, map, sum_by, refl, sym, ap, ◌∙◌, arith, cond}
 use Rattle.std.proofs.Common.{Option, Some, None, take, drop, subst}
@@ -99,7 +99,7 @@ pub first_sum : (o : Opening) (r : Role) → HasFunds o
 first_sum o Funder funds = omega (arith, funds.push)
 first_sum o Fundee funds = omega (arith, funds.push)
 
--- ---- behind more of the other side's updates
+-- ---- after more of the other side's updates
 
 grows_one : (o n : Outcome) (w : ℕ) → cond (is_failed o) w 0 ≤ cond (is_failed (cond (is_live o) n o)) w 0
 grows_one Live n w = omega arith

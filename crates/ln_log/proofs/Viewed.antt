@@ -44,7 +44,7 @@ use Rattle.ln_log.proofs.Stands.{between_is}
 
 -- ---- which counts a pair can have
 
--- behind the base
+-- after the base
 pub first_in : (p : Pair) (l : Log) (m n : ℕ) → IsWithin l → m ≤ l.current.own → n ≤ l.acknowledged.peer
     → (m ≤ (counts_of p l).own) × (n ≤ (counts_of p l).peer)
 first_in (pair.Current side.Own) l m n w h k =
@@ -61,7 +61,7 @@ first_in pair.ToAccept l m n w h k = (
   omega (arith, k, w.peer_acknowledged, w.peer_signed, w.peer_current),
 )
 
--- the rest of two lists that are cut goes on behind the base
+-- the rest of two lists that are cut goes on after the base
 pub base_goes_on : (k : Kept) (l : Log) (n m : ℕ) → IsWindowOf k l → k.first.own ≤ n → k.first.peer ≤ m
     → GoesOn l.opening l.role (own_base k l) (drop k.first.own (take n l.own)) (peer_base k l)
     (drop k.first.peer (take m l.received))
@@ -304,7 +304,7 @@ hit_first : (id : ℕ) (r : Removal) (o : Outcome) → IsDone (Some r) → r.id 
     → is_live (outcome_by id (Some r) o) ≡ false
 hit_first id r o d e = ap (λ b. is_live (cond b r.outcome o)) (eq-eqb r.id id e) ∙ d
 
--- behind more it stays removed
+-- after more it stays removed
 gone_in : (id : ℕ) (before us : List Update) → outcome id before ≡ Live → is_live (outcome id us) ≡ false
     → outcome id (before ++ us) ≡ Live → ⊥
 gone_in id before us live dead e =

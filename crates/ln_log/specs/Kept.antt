@@ -1,5 +1,5 @@
 -- What a log keeps (its window), and which lists that is a window of: of the first updates of both sides (the base) it
--- has what they are worth and the HTLCs that are live there, and the updates behind them one by one. Whole lists are
+-- has what they are worth and the HTLCs that are live there, and the updates after them one by one. Whole lists are
 -- what every other definition speaks of.
 use Rattle.std.specs.Prelude.{◌≡◌, ℕ, ◌+◌, ◌-◌, ◌*◌, ◌≤◌, List, ◌++◌, length, take, drop}
 use Rattle.ln_history.specs.History.{History}
@@ -107,7 +107,7 @@ abbrev pub live_base : Side → Kept → Log → List Update
 live_base side.Own k l = live_htlcs (own_base k l) (peer_base k l)
 live_base side.Peer k l = live_htlcs (peer_base k l) (own_base k l)
 
--- the live HTLCs of the base, and the updates behind it up to so many
+-- the live HTLCs of the base, and the updates after it up to so many
 abbrev pub front_of : Side → Kept → Log → ℕ → List Update
 front_of side.Own k l n = live_htlcs (own_base k l) (peer_base k l) ++ drop k.first.own (take n l.own)
 front_of side.Peer k l n = live_htlcs (peer_base k l) (own_base k l) ++ drop k.first.peer (take n l.received)

@@ -64,7 +64,7 @@ abbrev pub fee_fault : Role → Option Refusal
 fee_fault Funder = None
 fee_fault Fundee = Some refusal.NotFunder
 
--- what is wrong with an update of a side that stands so behind own, and holds held of the other side's
+-- what is wrong with an update of a side that stands so after own, and holds held of the other side's
 abbrev pub fault_at : Limits → Standing → Role → List Update → List Update → Update → Option Refusal
 fault_at l s side own held (update.Add a) = add_fault l s a
 fault_at l s side own held (update.Fulfil f) = fulfil_fault f.preimage (removable f.id own held)
@@ -72,7 +72,7 @@ fault_at l s side own held (update.Fail f) = fail_fault (removable f.id own held
 fault_at l s side own held (update.Malformed m) = malformed_fault m.failure_code (removable m.id own held)
 fault_at l s side own held (update.Fee f) = fee_fault side
 
--- by whole lists: behind own, where the side's next signature covers seen of the other side's updates, and
+-- by whole lists: after own, where the side's next signature covers seen of the other side's updates, and
 -- the side holds held of them
 abbrev pub update_fault : Opening → Role → List Update → List Update → List Update → Update → Option Refusal
 update_fault o side own seen held u = fault_at (limits_of o side)

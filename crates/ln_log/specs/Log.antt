@@ -243,7 +243,7 @@ abbrev pub RemovesLive : List Update → List Update → Option Removal → Type
 RemovesLive adds before None = Unit {0}
 RemovesLive adds before (Some r) = (is_some (add_with r.id adds) ≡ true) × (outcome r.id before ≡ Live)
 
--- behind some updates, each of these that removes an HTLC removes one that was offered and that none
+-- after some updates, each of these that removes an HTLC removes one that was offered and that none
 -- before it removes
 abbrev pub AreRemovals : List Update → List Update → List Update → Type 0
 AreRemovals adds before [] = Unit {0}

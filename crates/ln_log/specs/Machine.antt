@@ -52,7 +52,7 @@ with_party Fundee p m = record { opening = m.opening; funder = m.funder; fundee 
 
 -- ---- its steps
 
--- BOLT 2, "Adding an HTLC" and the sections behind it: a side proposes an update
+-- BOLT 2, "Adding an HTLC" and the sections after it: a side proposes an update
 abbrev pub after_propose : Update → Party → Party
 after_propose u p = record p { own = p.own ++ u ∷ [] }
 

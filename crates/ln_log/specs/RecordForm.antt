@@ -1,4 +1,4 @@
--- What the record of a channel tells of its updates where it has a base and the updates behind it, and which of these
+-- What the record of a channel tells of its updates where it has a base and the updates after it, and which of these
 -- a log can be restored from. The updates are those that signatures cover (BOLT 2, "Message Retransmission").
 use Rattle.std.specs.Prelude.{◌≡◌, ℕ, ◌+◌, ◌-◌, ◌*◌, ◌≤◌, ◌<◌, ◌^◌, List, [], ◌++◌, length, map, take, drop}
 use Rattle.ln_keys.specs.declared.role.Role.{Role}
@@ -25,13 +25,13 @@ pub record RecordForm : Type 0 where
   pub balances : Balances
   pub own_live_htlcs : List Add  -- the HTLCs that are live there, by id
   pub peer_live_htlcs : List Add
-  pub own : List Update  -- the updates behind it
+  pub own : List Update  -- the updates after it
   pub received : List Update
   pub signed : Counts
   pub acknowledged : Counts
   pub current : Counts
 
--- by a base, the updates behind it and what each commitment covers
+-- by a base, the updates after it and what each commitment covers
 abbrev pub record_form : Opening → Role → BaseState → List Update → List Update → Coverage → RecordForm
 record_form o x b own received c = record {
   opening = o;
@@ -58,8 +58,8 @@ pub record IsAtOpening (o : Opening) (x : Role) (b : BaseState) : Type 0 where
 abbrev pub as_offered : List Add → List Update
 as_offered adds = map (λ a. update.Add a) adds
 
--- how a side stands behind a base: by its next id and its balance there, the HTLCs of both sides that are live there,
--- and the updates behind it
+-- how a side stands after a base: by its next id and its balance there, the HTLCs of both sides that are live there,
+-- and the updates after it
 abbrev pub standing_after : ℕ → ℕ → List Update → List Update → List Update → List Update → Standing
 standing_after next b live_htlcs own live_htlcs_peer peer = record {
   next_id = next + next_id own;
@@ -137,7 +137,7 @@ written t = record {
 }
 
 -- the first updates, so many, are held as irrevocably committed, the counts lie within one another, and the last
--- signatures of both sides cover all updates: behind the first ones so many of either side
+-- signatures of both sides cover all updates: after the first ones so many of either side
 pub record AreCounted (first signed acknowledged current : Counts) (own peer : ℕ) : Type 0 where
   pub own_first : first.own ≤ current.own
   pub own_current : current.own ≤ acknowledged.own
@@ -153,14 +153,14 @@ pub record AreCounted (first signed acknowledged current : Counts) (own peer : �
 abbrev pub CountsFit : RecordForm → Type 0
 CountsFit t = AreCounted t.first t.signed t.acknowledged t.current (length t.own) (length t.received)
 
--- of two lists behind a base in which these HTLCs are live, each removal names, once, one of these or one that is
--- offered behind the base, and each side can pay out of what it has there
+-- of two lists after a base in which these HTLCs are live, each removal names, once, one of these or one that is
+-- offered after the base, and each side can pay out of what it has there
 pub record AreLawfulBehind (w : Balances) (live_htlcs_own own live_htlcs_peer peer : List Update) : Type 0 where
   pub own_removals : AreRemovals (live_htlcs_peer ++ peer) [] own
   pub peer_removals : AreRemovals (live_htlcs_own ++ own) [] peer
   pub paid : BothPayBehind w live_htlcs_own own live_htlcs_peer peer
 
--- of what a base and the updates behind it tell up to these counts
+-- of what a base and the updates after it tell up to these counts
 abbrev pub IsLawfulUpTo : BaseState → List Update → List Update → Counts → Type 0
 IsLawfulUpTo b own received c = AreLawfulBehind b.balances (as_offered b.own.items) (take (c.own - b.updates.own) own)
     (as_offered b.peer.items) (take (c.peer - b.updates.peer) received)
@@ -192,7 +192,7 @@ pub record IsRestorable (t : RecordForm) : Type 0 where
   pub acknowledged : IsLawfulBehind t t.acknowledged
   pub current : IsLawfulBehind t t.current
 
--- up to these counts the updates are found to be worth something behind the base
+-- up to these counts the updates are found to be worth something after the base
 abbrev pub HasBalancesAt : RecordForm → Counts → Type 0
 HasBalancesAt t c = HasBalances t.balances (as_offered t.own_live_htlcs ++ take (c.own - t.first.own) t.own)
     (take (c.own - t.first.own) t.own) (as_offered t.peer_live_htlcs ++ take (c.peer - t.first.peer) t.received)

@@ -1,4 +1,4 @@
--- What the beginnings of two lists leave behind: what they are worth, and their HTLCs that are still live. With the
+-- What the beginnings of two lists leave after: what they are worth, and their HTLCs that are still live. With the
 -- rest of the lists this is all that the whole lists say.
 use Rattle.std.specs.Prelude.{◌≡◌, ℕ, ◌+◌, ◌-◌, ◌≤◌, ◌<◌, ◌^◌, List, ◌++◌, map, take, Bool, true, ◌&&◌}
 use Rattle.std.specs.Prelude.{nat_lt, nat_le, Option, Some, None, if◌then◌else◌}
@@ -43,13 +43,13 @@ balances_of o x own peer = record {
   feerate = feerate_of o.feerate x own peer;
 }
 
--- a balance behind one: HTLCs that were live then and those that were offered since come back or are paid out by what
+-- a balance after one: HTLCs that were live then and those that were offered since come back or are paid out by what
 -- was proposed since, and what was offered since is gone
 abbrev pub balance_behind : ℕ → List Update → List Update → List Update → List Update → ℕ
 balance_behind b live_htlcs_own own live_htlcs_peer peer = b + total is_failed (live_htlcs_own ++ own) peer
     + total is_fulfilled (live_htlcs_peer ++ peer) own - total is_any own peer
 
--- what a base is worth with the updates behind it, where these HTLCs are live in it
+-- what a base is worth with the updates after it, where these HTLCs are live in it
 abbrev pub balances_behind : Role → Balances → List Update → List Update → List Update → List Update → Balances
 balances_behind x b live_htlcs_own own live_htlcs_peer peer = record {
   next_own = b.next_own + next_id own;
@@ -120,9 +120,9 @@ moved_base to l = if may_be_base l to then to else l.first
 abbrev pub after_advance : Counts → Log → Log
 after_advance to l = record l { first = moved_base to l }
 
--- ---- behind a base
+-- ---- after a base
 -- of the updates of a log that aren't had one by one any more, what they are worth, and the HTLCs of a side that are
--- live behind them
+-- live after them
 abbrev pub first_balances : Log → Balances
 first_balances l = balances_of l.opening l.role (before_first side.Own l) (before_first side.Peer l)
 
@@ -130,14 +130,14 @@ abbrev pub first_live_htlcs : Side → Log → List Update
 first_live_htlcs side.Own l = live_htlcs (before_first side.Own l) (before_first side.Peer l)
 first_live_htlcs side.Peer l = live_htlcs (before_first side.Peer l) (before_first side.Own l)
 
--- the rest of two lists behind such beginnings: its ids go on where theirs end
+-- the rest of two lists after such beginnings: its ids go on where theirs end
 pub record GoesOn (o : Opening) (x : Role) (own_base own peer_base peer : List Update) : Type 0 where
   pub base : IsClosed o x own_base peer_base
   pub own_ids : AreNumbered (next_id own_base) own
   pub peer_ids : AreNumbered (next_id peer_base) peer
 
--- ---- a view behind a base: of each list all that is kept, the HTLCs that are live in the base before the updates
--- behind it, and these updates alone
+-- ---- a view after a base: of each list all that is kept, the HTLCs that are live in the base before the updates
+-- after it, and these updates alone
 
 abbrev pub got_behind : ℕ → List Update → List Update → List Update → List Update → ℕ
 got_behind b all new peer_all peer_new = b + total is_failed all peer_new + total is_fulfilled peer_all new
@@ -167,7 +167,7 @@ pub record FitsBehind (b : RoleBalances) (funder funder_new fundee fundee_new : 
   pub funder_left : IsLeft b.funder funder funder_new fundee fundee_new
   pub fundee_left : IsLeft b.fundee fundee fundee_new funder funder_new
 
--- ---- what code finds two lists to be worth behind a base
+-- ---- what code finds two lists to be worth after a base
 
 pub record AreBalancesBehind (x : Role) (b : Balances) (own_all own peer_all peer : List Update)
     (w : Balances) : Type 0 where

@@ -1,4 +1,4 @@
-//! What updates are worth behind a base.
+//! What updates are worth after a base.
 
 ghost use Rattle.std.specs.Prelude.{◌≡◌, ◌≤◌, ◌<◌, ◌-◌, ◌^◌, IfOk};
 ghost use Rattle.std.specs.Result.{IsOkUnless};
@@ -48,8 +48,8 @@ fn left(got: u128, spent: u128) -> u64
     rest as u64
 }
 
-// The view of two lists behind a base: of each list all that is kept, the HTLCs that are live in the base before the
-// updates behind it, and these updates alone. 60 where there was no memory for the HTLCs.
+// The view of two lists after a base: of each list all that is kept, the HTLCs that are live in the base before the
+// updates after it, and these updates alone. 60 where there was no memory for the HTLCs.
 pub(crate) fn view_behind(
     alloc: Global,
     base: &RoleBalances,

@@ -48,7 +48,7 @@ pub fn a_base_is_led_to()
         (live_adds (take c.peer l.received) (take c.own l.own)) }
 {}
 
-/// A law: a log can be restored from what a record tells of a base and the updates behind it exactly where there are
+/// A law: a log can be restored from what a record tells of a base and the updates after it exactly where there are
 /// whole lists that the restored log stands for, and that could be loaded themselves; such are the ones that are
 /// written down.
 pub fn a_record_tells_of_lists()
@@ -81,7 +81,7 @@ pub fn a_record_without_a_base_has_all_updates()
         → IsAtOpening o x b → written (record_form o x b own received c) ≡ stored o x own received c }
 {}
 
-/// A law: whether both sides can pay behind a base may be told by whether the updates are worth something there.
+/// A law: whether both sides can pay after a base may be told by whether the updates are worth something there.
 pub fn what_is_told_has_balances()
     ensures has_balances { (t : RecordForm) → IsRestorable t
         → HasBalancesAt t t.signed × HasBalancesAt t t.acknowledged × HasBalancesAt t t.current }

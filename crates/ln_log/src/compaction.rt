@@ -37,7 +37,7 @@ fn remove_below(next: u64, updates: &[Update]) -> bool
     true
 }
 
-// The next id behind these.
+// The next id after these.
 fn next_behind(next: u64, updates: &[Update]) -> Option<u64>
     ensures next { IfSome result (λ n. n ≡ next + next_id updates.now) }
     ensures given_where_it_fits { next + next_id updates.now < 2 ^ 64 → is_some result ≡ true }
@@ -61,7 +61,7 @@ fn rest_of(got: u128, spent: u128) -> Option<u64>
     Some(rest as u64)
 }
 
-// What a side has left of a balance behind all that is kept of it, the HTLCs of a base before its new updates, and
+// What a side has left of a balance after all that is kept of it, the HTLCs of a base before its new updates, and
 // these alone; the same of the other side.
 fn balance_left(
     alloc: Global,
@@ -86,7 +86,7 @@ fn balance_left(
     Ok(rest_of(u128::from(had) + out.failed + back.fulfilled, spent.offered))
 }
 
-// The feerate behind these.
+// The feerate after these.
 fn feerate_behind(feerate: u32, role: Role, own: &[Update], peer: &[Update]) -> u32
     ensures { result ≡ feerate_of feerate role own.now peer.now }
 {
@@ -96,7 +96,7 @@ fn feerate_behind(feerate: u32, role: Role, own: &[Update], peer: &[Update]) -> 
     }
 }
 
-// What two lists are worth behind a base: of each all that is kept, the HTLCs that are live in the base before its new
+// What two lists are worth after a base: of each all that is kept, the HTLCs that are live in the base before its new
 // updates, and these alone. None where they remove an HTLC that they don't offer, or a side spent more than it had.
 fn balances_behind(
     alloc: Global,
@@ -137,7 +137,7 @@ fn balances_behind(
     }))
 }
 
-// Puts the HTLCs that these offer and the other side hasn't removed behind a list, as the updates that offered them.
+// Puts the HTLCs that these offer and the other side hasn't removed after a list, as the updates that offered them.
 fn keep_live(list: &mut Vec<Update>, updates: &[Update], outcomes: &Outcomes) -> Result<(), Refusal>
     ensures appends_them { OnOk result (list.new.items ≡ list.old.items ++ live_htlcs updates.now outcomes.now) }
     ensures fails_for_memory_alone { IsOkUnless result Refusal.Memory }
@@ -162,7 +162,7 @@ fn live_part(alloc: Global, updates: &[Update], removals: &[Update]) -> Result<V
     Ok(live)
 }
 
-// Puts copies of these behind a list.
+// Puts copies of these after a list.
 fn append(list: &mut Vec<Update>, rest: &[Update]) -> Result<(), Refusal>
     ensures appends_them { OnOk result (list.new.items ≡ list.old.items ++ rest.now) }
     ensures fails_for_memory_alone { IsOkUnless result Refusal.Memory }

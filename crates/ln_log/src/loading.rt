@@ -77,7 +77,7 @@ fn are_within(most: u64, updates: &[Update]) -> bool
     true
 }
 
-// Whether a side may have offered these behind a base.
+// Whether a side may have offered these after a base.
 fn are_offered(opening: &Opening, first: u64, updates: &[Update]) -> bool
     requires funds { HasFunds opening.now }
     requires few { first + length updates.now < 2 ^ 64 }
@@ -87,7 +87,7 @@ fn are_offered(opening: &Opening, first: u64, updates: &[Update]) -> bool
 }
 
 // Whether the base is held as irrevocably committed, the counts lie within one another, and the last signatures of both
-// sides cover all updates: so many of either side behind the base.
+// sides cover all updates: so many of either side after the base.
 fn counts_fit(updates: &Counts, coverage: &Coverage, own: usize, received: usize) -> bool
     ensures { IsTrue result ↔ AreCounted updates.now coverage.now.signed coverage.now.acknowledged
         coverage.now.current own received }
@@ -105,7 +105,7 @@ fn counts_fit(updates: &Counts, coverage: &Coverage, own: usize, received: usize
 }
 
 // Whether the base is one that updates lead to, and ids, amounts and counts are as a channel with these funds can have
-// them behind it.
+// them after it.
 fn are_in_place(
     opening: &Opening,
     role: Role,
@@ -176,7 +176,7 @@ struct Account {
     in_flight: u128,
 }
 
-// The account of a side that had so much and these live HTLCs in a base, and offered these behind it, where the other
+// The account of a side that had so much and these live HTLCs in a base, and offered these after it, where the other
 // side had those and offered those.
 #[tactic(auto, using(crate::proofs::Totals::total_splits, crate::proofs::Restored::total_both))]
 fn account_of(
@@ -208,7 +208,7 @@ fn account_of(
     })
 }
 
-// Whether a side can pay what it offered behind a base.
+// Whether a side can pay what it offered after a base.
 fn pays(
     alloc: Global,
     had: u64,
@@ -225,7 +225,7 @@ fn pays(
     Ok(account.spent <= account.got)
 }
 
-// Whether the view of these lists behind a base is lawful.
+// Whether the view of these lists after a base is lawful.
 fn is_lawful(
     alloc: Global,
     balances: &Balances,
@@ -339,7 +339,7 @@ fn count_live(adds: &[Update], outcomes: &Outcomes) -> usize
     count
 }
 
-// How a side stands that had this next id, so much and these live HTLCs in a base, and offered these behind it.
+// How a side stands that had this next id, so much and these live HTLCs in a base, and offered these after it.
 fn standing_behind(
     alloc: Global,
     next: u64,
@@ -365,7 +365,7 @@ fn standing_behind(
     })
 }
 
-// The live HTLCs of a base, and the updates behind it.
+// The live HTLCs of a base, and the updates after it.
 fn joined(live_htlcs: Vec<Update>, updates: Vec<Update>) -> Result<Vec<Update>, Refusal>
     ensures joins_them { IfOk result (λ v. v.items ≡ live_htlcs.items ++ updates.items) }
     ensures fails_for_memory_alone { IsOkUnless result Refusal.Memory }
@@ -477,7 +477,7 @@ impl UpdateLog {
     ghost use Rattle.ln_log.specs.RecordForm.{record_form, record_form_of, written, IsRestorable};
 
     /// Whether a log can be made of what the record of a channel tells of its updates: what both sides agreed on, this
-    /// side's role, a base, the updates behind it that this side has signed and those of the peer's that it has
+    /// side's role, a base, the updates after it that this side has signed and those of the peer's that it has
     /// accepted, and what each commitment covers. The funds are 1 to 2,100,000,000,000,000 satoshi, and the push no
     /// more. Updates can lead to the base (`may_be_led_to`), whose live HTLCs stand by rising id, and it is held as
     /// irrevocably committed. The counts lie within one another, and signatures cover all updates, of each side 2^62 at

@@ -216,7 +216,7 @@ impl UpdateLog {
         self.window.first(side)
     }
 
-    /// The update of this number, counted from 0: none before `first` and behind the last one. An HTLC that it
+    /// The update of this number, counted from 0: none before `first` and after the last one. An HTLC that it
     /// offers is of no more than 1000 * funding_satoshis, in millisatoshi.
     pub fn update(&self, side: Side, number: usize) -> Option<&Update>
         ensures update { (l : Log) → StandsFor self.now l

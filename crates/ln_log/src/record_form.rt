@@ -11,7 +11,7 @@ use ln_keys::Role;
 use std::alloc::Global;
 
 /// What a record has of the first updates of both sides: how many they are, what they are worth, and the HTLCs that are
-/// live behind them, those of each side by rising id. The updates behind them it has one by one.
+/// live after them, those of each side by rising id. The updates after them it has one by one.
 #[derive(Drop)]
 pub struct BaseState {
     /// How many updates of either side are in it.

@@ -89,7 +89,7 @@ impl OfferedHtlcs {
     }
 }
 
-// The HTLCs that these updates offer, all live: first the ones that are live in a base, then those behind it.
+// The HTLCs that these updates offer, all live: first the ones that are live in a base, then those after it.
 fn offered(
     alloc: Global,
     live_htlcs: &[Update],
@@ -104,7 +104,7 @@ fn offered(
     Ok(offered_htlcs)
 }
 
-// Whether each of these that removes an HTLC removes one that is live in a base or offered behind it, and that none
+// Whether each of these that removes an HTLC removes one that is live in a base or offered after it, and that none
 // before it removes.
 pub(crate) fn are_removals(
     alloc: Global,

@@ -171,7 +171,7 @@ fn malformed_refusal(malformed: &Malformed, htlc: Option<&Add>) -> Option<Refusa
     }
 }
 
-/// What the peer of a side would refuse its update by, where the side stands so behind its own updates and
+/// What the peer of a side would refuse its update by, where the side stands so after its own updates and
 /// holds these of the peer's as irrevocably committed: for an add the first limit that it would break; for
 /// a removal 28 where it names no HTLC that is held and not removed, 29 for a preimage that isn't the
 /// payment hash's, 21 for a malformed one without the BADONION bit; for a fee of the fundee's 30.

@@ -1,5 +1,5 @@
 //! What a log keeps (its window): of the first updates of both sides (the base) what they are worth and the HTLCs that
-//! are live there, and the updates behind them one by one.
+//! are live there, and the updates after them one by one.
 
 ghost use Rattle.std.specs.Prelude.{◌≡◌, ◌≤◌, ◌+◌, ◌*◌, List, length, Option, Some, None, option_copied};
 ghost use Rattle.std.specs.Prelude.{if◌then◌else◌, nat_lt, ◌-◌, drop, ◌&&◌};
@@ -377,7 +377,7 @@ impl Window {
         self.peer_standing = self.peer_current;
     }
 
-    // The HTLCs that are live in the base, and the updates of a side behind it up to so many.
+    // The HTLCs that are live in the base, and the updates of a side after it up to so many.
     pub(crate) fn front(&self, side: Side, end: usize) -> &[Update]
         requires behind_the_base { kept_first side self.now ≤ end }
         requires within { end ≤ kept_count side self.now }
@@ -423,7 +423,7 @@ impl Window {
         }
     }
 
-    // The update of this number, counted from 0: none before `first` and behind the last one.
+    // The update of this number, counted from 0: none before `first` and after the last one.
     pub(crate) fn update(&self, side: Side, number: usize) -> Option<&Update>
         ensures update { (l : Log) → IsWindowOf self.now l
             → option_copied result ≡ update_at (kept_first side self.now) (updates_of side l) number }
@@ -589,7 +589,7 @@ fn find_live(id: u64, adds: &[Update], removals: &[Update]) -> bool
     }
 }
 
-// The update of this number in a list that begins with so many HTLCs of the base, behind which the first update has
+// The update of this number in a list that begins with so many HTLCs of the base, after which the first update has
 // that number.
 fn nth_behind(updates: &[Update], live: usize, first: usize, number: usize) -> Option<&Update>
     ensures { option_copied result ≡ (if nat_lt number first then None else slice_get (drop live updates.now)

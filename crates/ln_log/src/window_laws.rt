@@ -8,7 +8,7 @@ ghost use Rattle.ln_log.specs.Updates.{next_id, add_with, outcome, is_live, is_s
 ghost use Rattle.ln_log.specs.Log.{AreNumbered, BothPay};
 ghost use Rattle.ln_log.specs.Window.{live_htlcs, balances_of, balances_behind, BothPayBehind, GoesOn};
 
-/// A law: a base, beginnings of both lists that are closed, and the updates behind it tell what the whole lists are
+/// A law: a base, beginnings of both lists that are closed, and the updates after it tell what the whole lists are
 /// worth, which of their HTLCs are live, and that both sides can pay. Of the base this takes what it is worth and its
 /// live HTLCs alone.
 pub fn base_and_window_tell_all()

@@ -1,5 +1,5 @@
 //! A routing node without threads: many links and one book of payments, called one call after the other. What it hands
-//! out waits in a line for each channel, behind batches of records over all channels (BOLT 2, "Forwarding HTLCs").
+//! out waits in a line for each channel, after batches of records over all channels (BOLT 2, "Forwarding HTLCs").
 #![tactic(auto)]
 
 mod batch;

@@ -1,4 +1,4 @@
--- How what is checked goes on behind each field.
+-- How what is checked goes on after each field.
 use Rattle.std.proofs.Common.{◌≡◌, ℕ, zero, suc, ◌+◌, ◌*◌, ◌<◌, ◌≤◌, Bool, true, false, cond, List, [], ◌∷◌, ◌++◌}
 use Rattle.std.proofs.Common.{length, map, get_or, take, drop, Result, Ok, Err, refl, sym, ap, ◌∙◌, arith}
 use Rattle.std.proofs.Common.{nat_lt, drop-drop}
@@ -156,7 +156,7 @@ bytes_behind : (size : ℕ) (bytes : List ℕ) (b : Bool) → nat_lt (length byt
 bytes_behind size bytes true short = rw short refl
 bytes_behind size bytes false long = rw long refl
 
--- a field of one size, and those behind it
+-- a field of one size, and those after it
 one_size : (k : Kind) (size n : ℕ) (ks js : List Kind) (bytes : List ℕ) → behind_field k bytes ≡ behind size bytes
     → ((rest : List ℕ) → behind_fields ks rest ≡ (behind n rest >>= behind_fields js))
     → behind_fields (k ∷ ks) bytes ≡ (behind (size + n) bytes >>= behind_fields js)

@@ -13,7 +13,7 @@ pub(crate) struct Wakeup {
     sounds: AtomicU64,
 }
 
-// For how many milliseconds a thread waits at most, behind so many loads in a row that were refused.
+// For how many milliseconds a thread waits at most, after so many loads in a row that were refused.
 fn pause_of(refused: u64) -> u64
     ensures { result ≡ pause_of refused }
 {

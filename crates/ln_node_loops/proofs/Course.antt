@@ -105,7 +105,7 @@ goes event first (Some last) count from low high =
       next = ap (next_of first) e.ends ∙ e.behind;
     }
 
--- ---- segments one behind the other
+-- ---- segments one after the other
 
 segments-join : (event : ℕ → ChannelEvent) (j k n : ℕ)
     → segment event j n ++ segment event k (n + j) ≡ segment event (j + k) n
@@ -126,7 +126,7 @@ tells-on event first next [] end same = omega (arith, same)
 tells-on event first next (t ∷ ts) end tells =
     let on = tells-on event first (reached next (tells.1 + tells.0)) ts end tells.5 in omega (arith, on)
 
--- all of these lists, one behind the other
+-- all of these lists, one after the other
 abbrev pub joined : List (List (ℕ × ChannelEvent)) → List (ℕ × ChannelEvent)
 joined [] = []
 joined (es ∷ more) = es ++ joined more

@@ -29,7 +29,7 @@ is_served p item.Broken = true
 is_served p (item.Order c) = false
 is_served p item.Stop = false
 
--- ---- how far a connection is behind an item that isn't served
+-- ---- how far a connection is after an item that isn't served
 
 abbrev pub init_in : Message → Option Init
 init_in (message.Init m) = Some m
@@ -54,7 +54,7 @@ PassesOver known p item.Broken p' = p' ≡ p
 PassesOver known p (item.Order c) p' = (is_reserved c ≡ true) × (p' ≡ p)
 PassesOver known p item.Stop p' = p' ≡ p
 
--- ---- how far it is behind one that is served
+-- ---- how far it is after one that is served
 
 abbrev pub begun : {J : Type 0} → Phase → Item J → Phase
 begun p (item.Joined j) = AwaitsInit
@@ -75,7 +75,7 @@ abbrev pub is_refused : Result (Unit {0}) Refusal → Bool
 is_refused (Ok u) = false
 is_refused (Err r) = true
 
--- A turn behind which nothing more is written: not all was, or the end takes no connection.
+-- A turn after which nothing more is written: not all was, or the end takes no connection.
 abbrev pub is_over : {J : Type 0} → Item J → Result (Unit {0}) Refusal → Bool
 is_over (item.Joined j) answer = is_refused answer
 is_over (item.Read m) answer = is_lost answer

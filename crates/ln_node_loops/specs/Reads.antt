@@ -57,7 +57,7 @@ pub record Reads {J : Type 0} (before after : Option (List ℕ)) (why : Result (
   pub stops : Stops rest after why
   pub relayed : put' ≡ put ++ reads messages
 
--- and Joined before them, and Broken behind
+-- and Joined before them, and Broken after
 pub record HandsOn {J : Type 0} (before after : Option (List ℕ)) (why : Result (Unit {0}) Fault) (joined : J)
     (put put' : List (Item J)) : Type 0 where
   pub between : List (Item J)

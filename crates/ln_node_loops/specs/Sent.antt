@@ -61,7 +61,7 @@ sent_for id (Err r) = option_to_list (reply_to r id)
 abbrev pub pongs : ℕ → List Wire
 pongs n = if nat_lt n 65532 then pong n ∷ [] else []
 
--- an item with what is behind a reference
+-- an item with what is after a reference
 abbrev pub shown : Item (Bor Message) → Item Message
 shown (item.Joined g) = item.Joined g.now
 shown (item.Read m) = item.Read m

@@ -80,7 +80,7 @@ module _ {S : Type 0} (acts : S → Act → Result (List Output) Refusal → S �
 
 -- ---- what is sent
 
--- behind what the peer tells of a failure a refusal isn't told to it (BOLT 1, "The error and warning Messages")
+-- after what the peer tells of a failure a refusal isn't told to it (BOLT 1, "The error and warning Messages")
 abbrev pub due_for : Kind → Result (List Output) Refusal → List Wire
 due_for OfConnection said = []
 due_for (Ping n) said = pongs n

@@ -8,7 +8,7 @@ use Rattle.ln_node_loops.specs.Orders.{Reply}
 use Rattle.ln_node_loops.specs.Turns.{LoopState}
 use Rattle.ln_node_loops.specs.Worker.{stand}
 
--- how many loads in a row were refused, up to ten, behind one more that was tried where the end had halted
+-- how many loads in a row were refused, up to ten, after one more that was tried where the end had halted
 abbrev pub refused_after : Bool → ℕ → ℕ
 refused_after halted before = if halted then (if nat_lt before 10 then before + 1 else before) else 0
 

@@ -41,7 +41,7 @@ fn bytes_of(alloc: Global, message: &Message) -> Result<Vec<u8>, Refusal>
     }
 }
 
-// The frame of a message, behind the bytes.
+// The frame of a message, after the bytes.
 #[tactic(auto, unfolding(crate::specs::Sent::frame_of))]
 fn append_frame(alloc: Global, out: &mut Vec<u8>, message: &Message) -> Result<(), Refusal>
     ensures appends { OnOk result (out.new.items ≡ out.old.items ++ frame_of (wire message.now)) }
@@ -53,7 +53,7 @@ fn append_frame(alloc: Global, out: &mut Vec<u8>, message: &Message) -> Result<(
     Ok(())
 }
 
-// The frame of a message, where there is one, behind the bytes.
+// The frame of a message, where there is one, after the bytes.
 fn append_first(alloc: Global, out: &mut Vec<u8>, first: Option<&Message>) -> Result<(), Refusal>
     ensures appends { OnOk result (out.new.items
         ≡ out.old.items ++ frames_of (option_to_list (option_map wire (option_copied first.entry)))) }
@@ -65,7 +65,7 @@ fn append_first(alloc: Global, out: &mut Vec<u8>, first: Option<&Message>) -> Re
     }
 }
 
-// The frame of an output's message, where it is one, behind the bytes.
+// The frame of an output's message, where it is one, after the bytes.
 fn append_output(alloc: Global, out: &mut Vec<u8>, output: &Output) -> Result<(), Refusal>
     ensures appends { OnOk result (out.new.items ≡ out.old.items ++ frames_of (sent (output.now ∷ []))) }
     ensures lost { IfErr result (SendsNone (sent (output.now ∷ []))) }
@@ -76,7 +76,7 @@ fn append_output(alloc: Global, out: &mut Vec<u8>, output: &Output) -> Result<()
     }
 }
 
-// The frames of the messages among outputs, behind the bytes.
+// The frames of the messages among outputs, after the bytes.
 fn append_sent(alloc: Global, out: &mut Vec<u8>, outputs: &[Output]) -> Result<(), Refusal>
     ensures appends { OnOk result (out.new.items ≡ out.old.items ++ frames_of (sent outputs.now)) }
     ensures lost { IfErr result (SendsNone (sent outputs.now)) }

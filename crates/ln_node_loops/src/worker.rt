@@ -175,7 +175,7 @@ impl<E: End + Drop, W: Closes + Drop> Worker<E, W> {
         }
     }
 
-    // Behind a turn.
+    // After a turn.
     fn end_turn(&mut self, over: bool)
         ensures end { self.new.end ≡ self.old.end }
         ensures left { Leaves E.halted self.old.phase over (connection_at W.contents self.old.connection)
@@ -368,7 +368,7 @@ impl<E: End + Drop, W: Closes + Drop> Worker<E, W> {
         }
     }
 
-    /// The events that aren't decided yet behind a load; none behind one that was refused.
+    /// The events that aren't decided yet after a load; none after one that was refused.
     pub fn pending_behind<R: Wait>(
         &self,
         rt: &R,

@@ -15,7 +15,7 @@ pub fn one_payment_out()
     ensures { (moves : List Move) → AreMade moves begun → Promises (after moves begun) }
 {}
 
-/// A law over every list of moves that may be made: a node that restarts behind them reads off its records what its
+/// A law over every list of moves that may be made: a node that restarts after them reads off its records what its
 /// book had of the payment, but for what no signature covered. Until the removal of the HTLC that came in is
 /// irrevocably committed, the book has the decision that it had, and where the HTLC goes out: an offer that a signature
 /// covers is there again, one that ended is over though the book hadn't heard of it, and a lost one can be made again,

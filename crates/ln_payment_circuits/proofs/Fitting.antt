@@ -348,7 +348,7 @@ own_between lo hi n (u ∷ us) = cases (event_of true u) (own_between lo hi (n +
     cases None h = h
     cases (Some e) h = ((tt, h.0), (tt, h.1))
 
--- they enter behind those that wait
+-- they enter after those that wait
 fit_entered : (l : Log) (rs ts : List EventRef) → IsFitLog l rs → All (IsBelow l.acknowledged.peer) ts
     × All (IsFrom l.first.peer) ts → IsFitLog l (rs ++ ts)
 fit_entered l rs ts h new = with_events l rs (rs ++ ts) h

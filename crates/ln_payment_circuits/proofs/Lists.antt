@@ -45,7 +45,7 @@ module _ {A : Type 0} where
   left_one false true x ys zs e = e
   left_one false false x ys zs e = e
 
-  -- two filters, one behind the other
+  -- two filters, one after the other
   pub filters_turn : (p q : A → Bool) (xs : List A) → filter q (filter p xs) ≡ filter p (filter q xs)
   filters_turn p q [] = refl
   filters_turn p q (x ∷ xs) = cases (p x) (q x) refl refl (filters_turn p q xs)

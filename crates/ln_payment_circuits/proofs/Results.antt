@@ -116,7 +116,7 @@ true_all own held (u ∷ us) f =
     true_one own held u (removed u) refl (λ r e. f u r (inl refl) e) (settlements own us)
     (true_all own held us (λ v r k e. f v r (inr k) e))
 
--- behind some updates that are held
+-- after some updates that are held
 pub new_true : (adds own before us : List Update) → AreRemovals adds before us
     → All (IsTrue own (before ++ us)) (settlements own us)
 new_true adds own before us h = true_all own (before ++ us) us (λ u r k e. fate_told adds before us u r h k e)

@@ -305,7 +305,7 @@ module _ (id_of : ℕ → List ℕ) where
       | inr isnt ↦ other h (k h) isnt k
     ]
 
-    -- ---- and the numbers agree behind it
+    -- ---- and the numbers agree after it
 
     -- what was held by it is no longer there
     gone : HavePayments id_of s → (x : Htlc) → IsIn x t.book → IsIn x s.book → p x ≡ true → ⊥

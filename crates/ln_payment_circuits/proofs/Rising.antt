@@ -45,7 +45,7 @@ module _ {A : Type 0} (id : A → ℕ) where
       cases true k = (h.0, k)
       cases false k = let a = h.0 in rising_from lo (suc (id x)) (map id (filter f xs) ++ ys) hi (omega (arith, a)) k
 
-  -- what is behind them has none of their ids
+  -- what is after them has none of their ids
   pub not_found : (lo : ℕ) (xs : List A) (i : ℕ) (ys : List ℕ) (hi : ℕ) → IsRising lo (map id xs ++ i ∷ ys) hi
       → find (λ x. id x == i) xs ≡ None
   not_found lo [] i ys hi h = refl

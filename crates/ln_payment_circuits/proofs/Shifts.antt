@@ -162,7 +162,7 @@ module _ (origin : Incoming → List ℕ × ℕ) (h : Incoming) where
       ∙ ap (λ us. course_by (is_some (add_with i (take x.log.signed.own x.log.own)))
       (ended_by (outcome i us) (has_result i x.results))) front) p k
 
-  -- one behind the other
+  -- one after the other
   pub goes_then : (s t : Links) (p : Payment) (first : HasMoves origin h s p)
       → ((q : Payment) → IsOfLinks origin h s q → HasMoves origin h t q) → HasMoves origin h t p
   goes_then s t p first then =

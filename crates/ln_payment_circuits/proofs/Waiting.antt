@@ -103,7 +103,7 @@ new_rise us (v ∷ vs) rest n first e h =
     counted n None k all e = omega (arith, e)
     counted n (Some a) k all e = omega (arith, e)
 
--- ---- lists that change behind what is held
+-- ---- lists that change after what is held
 
 -- each entry of the peer's tells of an update below this number
 first_taken : (k m : ℕ) (us : List Update) → k < m → first_id (drop k (take m us)) ≡ first_id (drop k us)

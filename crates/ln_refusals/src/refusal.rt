@@ -62,9 +62,9 @@ pub enum Refusal {
     SecretWrong,
     /// 33: a revocation that answers no signature.
     NothingToRevoke,
-    /// 34: `channel_reestablish` with a number that can't be served; carries whose data is lost, as far as it proves it.
+    /// 34: `channel_reestablish` with a number that can't be served; carries whose data it proves to be lost.
     ReestablishNumber(LostData),
-    /// 35: an HTLC is added behind its sender's shutdown.
+    /// 35: an HTLC is added after its sender's shutdown.
     AddAfterShutdown,
     /// 36: a closing fee that can't be agreed to.
     FeeOutside,

@@ -11,7 +11,7 @@ pub(crate) fn never<R: Wait>(rt: &R)
     unreachable!()
 }
 
-// One more. Behind 2^64 - 1 it waits for ever, as the queue itself does long before.
+// One more. After 2^64 - 1 it waits for ever, as the queue itself does long before.
 pub(crate) fn one_more<R: Wait>(rt: &R, count: u64) -> u64
     ensures is_one_more { result ≡ count + 1 }
 {

@@ -27,7 +27,7 @@ count_from n s ss =
     let one : count (s ∷ []) ≡ 0 + cond (is_hook s) 1 0 = refl in
     omega (arith, one, next_is (is_hook s) n, count-cons s ss)
 
--- those behind others go on from their places
+-- those after others go on from their places
 numbered_both : (n : ℕ) (ss ts : List ToyStep) → numbered n (ss ++ ts) ≡ numbered n ss ++ numbered (n + count ss) ts
 numbered_both n [] ts = ap (λ m. numbered m ts) (let same : n ≡ n + 0 = omega arith in same)
 numbered_both n (s ∷ ss) ts =

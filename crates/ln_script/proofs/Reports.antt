@@ -145,7 +145,7 @@ module _ {H : Type 0} (calls : H → ChannelEvent → Verdict → H → Type 0) 
     written = Appends-nil a;
   }
 
-  -- what is told of a step stands behind what was told before
+  -- what is told of a step stands after what was told before
   behind : (s : ToyStep) (w w' : World ToyKeys) (ts ts' : List (Tables calls)) (left left' : List (Option H))
       (told lines : List Line) → Steps toy calls s w ts left w' ts' left' [] lines
       → Steps toy calls s w ts left w' ts' left' told (told ++ lines)
@@ -203,7 +203,7 @@ module _ {H : Type 0} (calls : H → ChannelEvent → Verdict → H → Type 0) 
             (partly_before a c (lines_text lines) so.0 p);
       }
 
-  -- behind the steps that are done
+  -- after the steps that are done
   pub stops_here : (done rest all : List ToyStep) (w : World ToyKeys) (ts : List (Tables calls))
       (left : List (Option H)) (a b : Option (List ℕ)) → done ++ rest ≡ all → IsTold done w ts left a b
       → ReportsPartly calls handed all a b

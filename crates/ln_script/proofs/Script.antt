@@ -26,7 +26,7 @@ pub no_line : (n : ℕ) → steps_from n [] ≡ Ok []
 unfolding steps_from
 no_line n = refl
 
--- the line of this place and those behind it
+-- the line of this place and those after it
 cut_at : (xs : List (List ℕ)) (i : ℕ) → i < length xs → drop i xs ≡ get_or xs i [] ∷ drop (i + 1) xs
 cut_at xs i within = rw (add-one, drop-cons xs i [])
 
@@ -56,7 +56,7 @@ told r ss xs i l o reads within is e =
     ∙ ap (λ (x : Option (List ToyStep)). line_then (i + 1) x (steps_from (i + 1 + 1) (drop (i + 1) xs)))
     (ap line_at (sym is) ∙ e))
 
--- behind a line, whose steps joined the others where it is good
+-- after a line, whose steps joined the others where it is good
 pub after_line : (r : Result (List ToyStep) ℕ) (ss ts : List ToyStep) (xs : List (List ℕ)) (i : ℕ) (l : List ℕ)
     → (o : Option (List ToyStep)) → Reads r ss xs i → i < length xs → l ≡ get_or xs i [] → line_at l ≡ o
     → Some ts ≡ joined ss o → Reads r ts xs (i + 1)

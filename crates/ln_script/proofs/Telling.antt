@@ -53,7 +53,7 @@ module _ {H : Type 0} (calls : H → ChannelEvent → Verdict → H → Type 0) 
         stand = st.moved.stand;
       }
 
-  -- ---- what the steps that are left do stands behind what was done
+  -- ---- what the steps that are left do stands after what was done
 
   pub record Ahead (failures : ℕ) (rest all : List ToyStep) (now start : Moment calls) : Type 0 where
     pub stand : AllStand calls now

@@ -17,12 +17,12 @@ preimage_of payment = replicate 32 payment
 unfoldable pub hash_of : ℕ → List ℕ
 hash_of payment = payment_hash (preimage_of payment)
 
--- a failure's code in two bytes; behind one whose UPDATE bit, 4096, is set the length of a channel_update that is left
+-- a failure's code in two bytes; after one whose UPDATE bit, 4096, is set the length of a channel_update that is left
 -- out (BOLT 4, "Failure Messages")
 unfoldable pub reason_of : ℕ → List ℕ
 reason_of code = code / 256 ∷ code % 256 ∷ (if (code / 4096) % 2 == 1 then 0 ∷ 0 ∷ [] else [])
 
--- ---- what the words behind the end ask for
+-- ---- what the words after the end ask for
 
 -- confirm E BxTxO
 abbrev pub confirm_at : List ℕ → Option Command
@@ -110,7 +110,7 @@ abbrev pub shutdown_line : Node → List (List ℕ) → Option Command
 shutdown_line node [] = Some (shutdown_by node)
 shutdown_line node _ = None
 
--- what an end of this node is told by a line's first word and those behind the end
+-- what an end of this node is told by a line's first word and those after the end
 abbrev pub update_at : List ℕ → List (List ℕ) → Option Command
 update_at w ws =
     if bytes_eq w (codes "add") then add_line ws

@@ -58,7 +58,7 @@ lawful_at w = do
   number ← code_at w
   lawful number
 
--- ---- what the words behind hook ask for
+-- ---- what the words after hook ask for
 
 -- AMOUNT CODE
 abbrev pub above_at : List ℕ → List ℕ → Option HookLine

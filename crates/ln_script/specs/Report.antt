@@ -38,7 +38,7 @@ ends_text w = flat_map shown_end (end_lines w)
 abbrev pub Said : Type 0
 Said = List (ToyStep × Verdict)
 
--- what is told of steps, from this world on, and how the ends stand behind them
+-- what is told of steps, from this world on, and how the ends stand after them
 abbrev pub report_from : Said → World ToyKeys → List ℕ
 report_from ss w = lines_text (run_lines toy ss w) ++ ends_text (run toy ss w).dispatchers.channels
 
@@ -85,7 +85,7 @@ module _ {H : Type 0} (calls : H → ChannelEvent → Verdict → H → Type 0) 
 
   -- ---- what steps were told as, from nothing on
 
-  -- the world behind them, and all that was written of them
+  -- the world after them, and all that was written of them
   pub record StepsTold (handed : List H) (ss : List ToyStep) (w : World ToyKeys) (ts : List (Tables calls))
       (left : List (Option H)) (old new : Option (List ℕ)) : Type 0 where
     pub lines : List Line
@@ -101,7 +101,7 @@ module _ {H : Type 0} (calls : H → ChannelEvent → Verdict → H → Type 0) 
         (left_by answers (length handed) ss).dispatchers.dispatchers tables left
     pub written : Appends old new (report_text (length handed) (said_by answers (length handed) ss))
 
-  -- a beginning of it, where each hook stands so behind the first of the steps
+  -- a beginning of it, where each hook stands so after the first of the steps
   pub record ReportsPartly (handed : List H) (ss : List ToyStep) (old new : Option (List ℕ)) : Type 0 where
     pub answers : Answers
     pub done : List ToyStep

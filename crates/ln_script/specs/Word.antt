@@ -62,7 +62,7 @@ id_of block tx output = record {
   tx_fits = cut_below 24 tx;
 }
 
--- what stands before the first x, and behind it; 120 is the code of x
+-- what stands before the first x, and after it; 120 is the code of x
 abbrev pub before_x : List ℕ → List ℕ
 before_x w = before_first (λ b. b == 120) w
 

@@ -35,7 +35,7 @@ fn hash_of(payment: u8) -> [u8; 32]
     sha256_32(&preimage_of(payment))
 }
 
-/// Why an HTLC fails: the code in two bytes, and two zero bytes behind one whose UPDATE bit is set (BOLT 4, "Failure
+/// Why an HTLC fails: the code in two bytes, and two zero bytes after one whose UPDATE bit is set (BOLT 4, "Failure
 /// Messages").
 #[tactic(auto, unfolding(crate::specs::Command::reason_of))]
 fn reason_of(alloc: Global, code: u16) -> Result<Bytes, Refusal>
@@ -238,7 +238,7 @@ fn shutdown_line(alloc: Global, node: Node, words: &[&str]) -> Result<Option<Com
     }
 }
 
-/// The update that a line's first word and those behind its end ask for.
+/// The update that a line's first word and those after its end ask for.
 fn update_of(alloc: Global, word: &str, words: &[&str]) -> Result<Option<Command>, Refusal>
     ensures command { IfOk result (λ o. o ≡ update_at word.now (texts words.now)) }
     ensures fails_for_memory_alone { IfErr result (λ e. e ≡ refusal.Memory) }
@@ -253,7 +253,7 @@ fn update_of(alloc: Global, word: &str, words: &[&str]) -> Result<Option<Command
     }
 }
 
-/// The command that an end of this node is told by a line's first word and those behind the end. 60 where there is no
+/// The command that an end of this node is told by a line's first word and those after the end. 60 where there is no
 /// memory.
 #[tactic(auto, unfolding(crate::specs::Command::command_at))]
 pub(crate) fn command_of(

@@ -58,7 +58,7 @@ pub fn steps_are_wide()
 
 /// The laws of a world hold after each script that is read, whatever the hooks answer that are handed in, and with
 /// nothing else asked for: in each channel, what either end holds as irrevocably committed was covered by the other,
-/// of all that an end sends no `update_add_htlc` stands behind its shutdown, and the calls of each hook follow its
+/// of all that an end sends no `update_add_htlc` stands after its shutdown, and the calls of each hook follow its
 /// end's events (`ln_world::headline`); the message in front of either end is taken, or refused for its closing fee,
 /// and no link has failed (`ln_world::never_refused`); where both ends take fees that overlap it is taken
 /// (`ln_world::never_refused_where_fees_overlap`); both close at one fee (`ln_world::closed_at_one_fee`); a shutdown is

@@ -64,7 +64,7 @@ fn stream_of(alloc: Global, records: &[Record]) -> Result<Bytes, Refusal>
     }
 }
 
-/// The payload of the node behind a hop.
+/// The payload of the node after a hop.
 #[tactic(auto, unfolding(crate::specs::Onion::hop_payload))]
 fn hop_payload(alloc: Global, hop: Hop) -> Result<Bytes, Refusal>
     ensures payload { IfOk result (λ b. b ≡ hop_payload hop) }

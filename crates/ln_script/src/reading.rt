@@ -68,7 +68,7 @@ fn place_hook(step: &mut Step<ToyKeys>, place: usize) -> usize
     }
 }
 
-/// The hooks get their places, in their order, the first of them this one; answers the place behind the last.
+/// The hooks get their places, in their order, the first of them this one; answers the place after the last.
 pub fn place_hooks(steps: &mut Vec<Step<ToyKeys>>, first: usize) -> usize
     requires { first + count_by is_hook steps.old.items < usize.MAX }
     ensures placed { steps.new.items ≡ numbered first steps.old.items }

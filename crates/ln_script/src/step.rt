@@ -396,7 +396,7 @@ fn command_line(alloc: Global, word: &str, words: &[&str]) -> Result<Option<Doin
     }
 }
 
-/// What an end does, by a line's first word and those behind it. 60 where there is no memory.
+/// What an end does, by a line's first word and those after it. 60 where there is no memory.
 #[tactic(auto, unfolding(crate::specs::Step::act_line))]
 fn act_line(alloc: Global, word: &str, words: &[&str]) -> Result<Option<Doing>, Refusal>
     ensures doing { IfOk result (λ o. o ≡ act_line word.now (texts words.now)) }
@@ -483,7 +483,7 @@ fn other_step_of(
     }
 }
 
-/// The step of a line's first word and those behind it, where they are one. 60 where there is no memory.
+/// The step of a line's first word and those after it, where they are one. 60 where there is no memory.
 #[tactic(auto, unfolding(crate::specs::Step::step_at))]
 fn step_of(alloc: Global, word: &str, words: &[&str]) -> Result<Option<Step<ToyKeys>>, Refusal>
     ensures step { IfOk result (λ o. o ≡ step_at word.now (texts words.now)) }

@@ -1,4 +1,4 @@
--- What a store begins with, from what is known of a database before its rows are read and behind that.
+-- What a store begins with, from what is known of a database before its rows are read and after that.
 use Rattle.std.proofs.Common.{◌≡◌, inl, inr, [], not, true, false, Bool, Ok, Err, Result, IfOk, IfErr, IsTrue}
 use Rattle.std.proofs.Common.{sym, ap, subst, ◌∙◌, refl, length, true≢false}
 use Rattle.std.specs.FinMap as map

@@ -14,7 +14,7 @@ new_row rows id body = Int (next_rowid rows) ∷ Blob id ∷ Blob body ∷ []
 abbrev pub Conflicts : List Row → List ℕ → List ℕ → Row → Type 0
 Conflicts rows id body r = conflicts None schema.indexes records (new_row rows id body) r ≡ true
 
--- the rows whose key the new one has are taken out, by their rowids, and the new one is put behind all
+-- the rows whose key the new one has are taken out, by their rowids, and the new one is put after all
 pub record Replaced (rows : List Row) (id body : List ℕ) (after : List Row) : Type 0 where
   pub gone : List ℤ
   pub sound : (z : ℤ) → Has gone z → (r : Row) × Has rows r × Conflicts rows id body r × (z ≡ id_in (rowid r))

@@ -1,4 +1,4 @@
--- Writing one thing behind another.
+-- Writing one thing after another.
 use Rattle.std.proofs.Common.{◌≡◌, List, ◌++◌, ap, ◌∙◌, append_assoc, ℕ}
 
 pub follows : (x y z a b : List ℕ) → y ≡ x ++ a → z ≡ y ++ b → z ≡ x ++ (a ++ b)

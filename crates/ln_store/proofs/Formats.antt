@@ -137,7 +137,7 @@ sized_is_lawful size = record {
   again = λ x rest h. sized_again size x rest (ltb-true (length x) (256 ^ size) h);
 }
 
--- ---- one behind the other
+-- ---- one after the other
 
 pub both_are_lawful : {A B : Type 0} (f : Format A) (g : Format B) → IsLawful f → IsLawful g → IsLawful (f & g)
 both_are_lawful {A = A} {B = B} f g lf lg = record {

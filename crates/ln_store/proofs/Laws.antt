@@ -27,7 +27,8 @@ use Rattle.ln_store.specs.Format.{Format, number, fixed, sized, ◌&◌, kind}
 use Rattle.ln_store.specs.Items as it
 use Rattle.ln_store.specs.Items.{role_number, role_of, bit, later_bit, is_odd, flags_number, flags_of, failure_with}
 use Rattle.ln_store.specs.Items.{failure_code, failure_number, failure_of, failures, update_tag, update_form, add_form}
-use Rattle.ln_store.specs.Items.{event_tag, event_form, mark_tag, mark_form, the_fulfil, the_fail, the_malformed, the_fee}
+use Rattle.ln_store.specs.Items.{event_tag, event_form, mark_tag, mark_form, the_fulfil, the_fail, the_malformed}
+use Rattle.ln_store.specs.Items.{the_fee}
 use Rattle.ln_store.specs.Items.{own_number, peer_number, the_close, forward_of, reason_of, code_of, preimage_of}
 use Rattle.ln_store.specs.Items.{event_held}
 use Rattle.ln_store.proofs.Formats.{IsLawful, number_is_lawful, fixed_is_lawful, sized_is_lawful, both_are_lawful}
@@ -386,7 +387,7 @@ pub update_is_lawful : IsLawful it.update
 unfolding it.update
 update_is_lawful = tagged_is_lawful update_tag update_form update_forms update_own
 
--- ---- the base and the window behind it
+-- ---- the base and the window after it
 
 add_forms : (n : ℕ) → IsLawful (add_form n)
 add_forms n = picked (n == 0) _ _ add_is_lawful nothing_is_lawful

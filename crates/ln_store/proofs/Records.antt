@@ -174,7 +174,7 @@ guard : {A : Type 0} (b : Bool) (d : Refusal) (r : Result A Refusal) (y : A) →
 guard true d r y e = (refl, e)
 guard false d r y e = absurd cc
 
--- items that were read, with nothing behind them
+-- items that were read, with nothing after them
 record WasRead (v : ℕ) (o : Option (Items × List ℕ)) (i : Items) : Type 0 where
   read : o ≡ Some (i, [])
   readable : is_readable i ≡ true

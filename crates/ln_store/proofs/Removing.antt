@@ -97,7 +97,7 @@ live_is Live e = refl
 live_is Fulfilled e = absurd (cc)
 live_is Failed e = absurd (cc)
 
--- behind an update that removes it an HTLC isn't live
+-- after an update that removes it an HTLC isn't live
 gone_by : (id : ℕ) (us : List Update) (u : Update) (r : Removal) → removed u ≡ Some r → eqb r.id id ≡ true
     → (b : Bool) → is_live (outcome id us) ≡ b → is_live (outcome id (us ++ u ∷ [])) ≡ false
 gone_by id us u r e same true live =
@@ -119,7 +119,7 @@ noted s n us u r e put h id =
           ∙ ap (λ o. not (is_live o)) (sym (outcome-other id us u r e g.0))
     ]
 
--- ---- one update behind the other
+-- ---- one update after the other
 
 pub begins : (x side : Role) (u : Updates) (us : List Update) → x ≡ other_role side → us ≡ window_of side u.window
     → are_removals (is_there x u.base.live (window_of x u.window)) [] us ≡ removals_fit side u

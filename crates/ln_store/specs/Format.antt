@@ -45,7 +45,7 @@ sized_at size bytes = do
   len ← number_at size bytes
   bytes_at len.0 len.1
 
--- bytes behind their length, which is a number of so many bytes
+-- bytes after their length, which is a number of so many bytes
 abbrev pub sized : ℕ → Format (List ℕ)
 sized size = record {
   bytes = λ b. big_bytes size (length b) ++ b;
@@ -53,7 +53,7 @@ sized size = record {
   at = sized_at size;
 }
 
--- ---- one behind the other
+-- ---- one after the other
 
 abbrev pub both_at : {A B : Type 0} → Format A → Format B → List ℕ → Option ((A × B) × List ℕ)
 both_at f g bytes = do
@@ -69,7 +69,7 @@ f & g = record {
   at = both_at f g;
 }
 
--- so many values one behind the other
+-- so many values one after the other
 unfoldable pub items_at : {A : Type 0} → Format A → ℕ → List ℕ → Option (List A × List ℕ)
 items_at f zero bytes = Some ([], bytes)
 items_at f (suc count) bytes = do
@@ -82,7 +82,7 @@ list_at f bytes = do
   count ← number_at 8 bytes
   items_at f count.0 count.1
 
--- values behind their count, which is a number of eight bytes
+-- values after their count, which is a number of eight bytes
 abbrev pub list : {A : Type 0} → Format A → Format (List A)
 list f = record {
   bytes = λ xs. big_bytes 8 (length xs) ++ flat_map f.bytes xs;

@@ -220,7 +220,7 @@ update = tagged update_tag update_form
 abbrev pub is_removal : Update → Bool
 is_removal u = is_some (removed u)
 
--- ---- the base and the window behind it
+-- ---- the base and the window after it
 
 abbrev pub add_form : ℕ → Format Add
 add_form tag = if tag == 0 then add else nothing

@@ -57,7 +57,7 @@ before_seal bytes = take (length bytes - 32) bytes
 abbrev pub seal_of : List ℕ → List ℕ
 seal_of bytes = drop (length bytes - 32) bytes
 
--- what is before the digest begins with the magic bytes, and tells so many bytes behind the head
+-- what is before the digest begins with the magic bytes, and tells so many bytes after the head
 abbrev pub begins_well : List ℕ → ℕ → Bool
 begins_well front len = are_same (take 4 front) magic && (big_number 8 (drop 6 front) + 46 == len)
 

@@ -32,7 +32,7 @@ abbrev pub removes_there : (ℕ → Bool) → List Update → Option Removal →
 removes_there there before None = true
 removes_there there before (Some r) = there r.id && is_live (outcome r.id before)
 
--- and so does each of these, behind those before
+-- and so does each of these, after those before
 abbrev pub are_removals : (ℕ → Bool) → List Update → List Update → Bool
 are_removals there before [] = true
 are_removals there before (u ∷ us) =

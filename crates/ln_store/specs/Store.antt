@@ -16,7 +16,7 @@ Records = FinMap (slice_cmp nat_cmp) (List ℕ)
 abbrev pub records_code : Coded Records
 records_code = code (coded_list coded_ℕ) (coded_list coded_ℕ)
 
--- what a save that fails leaves: the records before it, or, where the store itself failed, perhaps those behind it; and
+-- what a save that fails leaves: the records before it, or, where the store itself failed, perhaps those after it; and
 -- nothing between the two
 abbrev pub IsOneOf : Refusal → Records → Records → Records → Type 0
 IsOneOf e before behind records = (records ≡ before) ⊎ ((e ≡ refusal.Store) × (records ≡ behind))

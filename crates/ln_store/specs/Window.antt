@@ -1,4 +1,4 @@
--- Which updates a record may tell: what the first ones came to, and those behind them one by one.
+-- Which updates a record may tell: what the first ones came to, and those after them one by one.
 use Rattle.std.specs.Prelude.{ℕ, ◌+◌, ◌*◌, ◌^◌, List, [], ◌∷◌, length, sum_by, Bool, true, ◌==◌, ◌&&◌, nat_le}
 use Rattle.std.specs.Prelude.{Option, Some, None}
 use Rattle.ln_keys.specs.declared.role.Role.{Role}

@@ -95,7 +95,7 @@ fn are_whole(alloc: Global, version: u16, items: &Items, rest: &[u8]) -> Result<
     Ok(rest.is_empty() && is_sound(alloc, items)? && is_told_in(version, items))
 }
 
-// The items that the body has in this version, and nothing behind them.
+// The items that the body has in this version, and nothing after them.
 fn items_of(alloc: Global, version: u16, body: &[u8]) -> Result<Items, Refusal>
     ensures reads_as_defined { Gives (λ i. i) result (only_items version (it.items.at body.now)) }
     ensures is_readable { IfOk result (λ i. is_readable i ≡ true) }
@@ -185,7 +185,7 @@ fn seal(alloc: Global, body: &[u8]) -> Result<Vec<u8>, Refusal>
     Ok(out)
 }
 
-// Writes the digest of what is there behind it.
+// Writes the digest of what is there after it.
 fn put_digest(out: &mut Vec<u8>) -> Result<(), Refusal>
     ensures appends_it { OnOk result (out.new.items ≡ out.old.items ++ digest out.old.items) }
     ensures fails_for_memory_alone { IfErr result (λ e. e ≡ Refusal.Memory) }

@@ -236,7 +236,7 @@ impl Stored for ChainPlace {
     }
 }
 
-// A script: bytes behind their length in two bytes.
+// A script: bytes after their length in two bytes.
 impl Stored for Bytes {
     ghost format = { sized 2 };
 

@@ -10,7 +10,7 @@ use crate::stored::{Stored, array_at, put, put_u8, put_u64, u64_at};
 use ln_refusals::Refusal;
 use std::alloc::Global;
 
-// So many values one behind the other.
+// So many values one after the other.
 fn items_at<T: Stored + Drop>(
     alloc: Global,
     count: u64,
@@ -54,7 +54,7 @@ pub fn optional_at<T: Stored + Drop>(
     }
 }
 
-// Writes the values one behind the other.
+// Writes the values one after the other.
 fn put_items<T: Stored>(out: &mut Vec<u8>, items: &[T]) -> Result<(), Refusal>
     requires { list_all T.format.fits items.now ≡ true }
     ensures appends_them { OnOk result (out.new.items ≡ out.old.items ++ flat_map T.format.bytes items.now) }

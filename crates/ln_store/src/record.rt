@@ -64,7 +64,7 @@ pub struct Sides {
 pub struct Base {
     /// How many updates are in it.
     pub updates: Sides,
-    /// The ids of the next HTLCs behind these.
+    /// The ids of the next HTLCs after these.
     pub next_ids: Sides,
     /// What the sides have, in millisatoshi.
     pub balances: Sides,
@@ -74,7 +74,7 @@ pub struct Base {
     pub live: Listed<LiveHtlc>,
 }
 
-/// The updates behind the base, one by one.
+/// The updates after the base, one by one.
 #[derive(Drop)]
 pub struct Window {
     /// The funder's.
@@ -103,7 +103,7 @@ pub struct Pairs {
     pub current: Covered,
 }
 
-/// The events of a channel end: how many were decided, and those behind them.
+/// The events of a channel end: how many were decided, and those after them.
 #[derive(Drop)]
 pub struct Events {
     /// How many were decided.
@@ -159,7 +159,7 @@ pub struct Commitments {
 pub struct Updates {
     /// What the first ones came to.
     pub base: Base,
-    /// Those behind them.
+    /// Those after them.
     pub window: Window,
     /// How many of them signatures and commitments cover.
     pub pairs: Pairs,

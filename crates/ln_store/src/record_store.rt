@@ -10,7 +10,7 @@ use std::alloc::Global;
 
 /// Stores a record for each of any number of ids.
 ///
-/// An id has 32 bytes, a record any number of bytes. What a call answers and leaves behind depends on nothing but
+/// An id has 32 bytes, a record any number of bytes. What a call answers and leaves after depends on nothing but
 /// the records and the arguments, unless it fails: a call fails by 60 (`Memory`) where there was no memory, by 61
 /// (`Store`) where the store itself failed, and the store counts the calls that failed by 61.
 pub trait RecordStore {

@@ -15,7 +15,7 @@ pub trait Stored: Sized {
     /// How it is written and read.
     ghost format: { Format Self };
 
-    /// The value at the front of the bytes, and the bytes behind it. Errors: 70 where there is none, 60 where there is
+    /// The value at the front of the bytes, and the bytes after it. Errors: 70 where there is none, 60 where there is
     /// no memory.
     fn read(alloc: Global, bytes: &[u8]) -> Result<(Self, &[u8]), Refusal>
         ensures { Finds (λ x. (x.0, x.1.now)) result (format.at bytes.now) };
@@ -24,7 +24,7 @@ pub trait Stored: Sized {
     fn fits(&self) -> bool
         ensures { result ≡ format.fits self.now };
 
-    /// Writes the value behind the bytes. Error: 60 alone, where there is no memory.
+    /// Writes the value after the bytes. Error: 60 alone, where there is no memory.
     fn write(&self, out: &mut Vec<u8>) -> Result<(), Refusal>
         requires { format.fits self.now ≡ true }
         ensures appends_the_value { OnOk result (out.new.items ≡ out.old.items ++ format.bytes self.now) }
@@ -92,7 +92,7 @@ fn front_at(alloc: Global, len: u64, bytes: &[u8]) -> Result<(Bytes, &[u8]), Ref
     Ok((Bytes::from_slice(alloc, front)?, rest))
 }
 
-/// Bytes behind their length in two bytes.
+/// Bytes after their length in two bytes.
 pub fn short_at(alloc: Global, bytes: &[u8]) -> Result<(Bytes, &[u8]), Refusal>
     ensures { Finds (λ x. (x.0, x.1.now)) result (sized_at 2 bytes.now) }
 {
@@ -100,7 +100,7 @@ pub fn short_at(alloc: Global, bytes: &[u8]) -> Result<(Bytes, &[u8]), Refusal>
     front_at(alloc, u64::from(len), rest)
 }
 
-/// Bytes behind their length in four bytes.
+/// Bytes after their length in four bytes.
 pub fn medium_at(alloc: Global, bytes: &[u8]) -> Result<(Bytes, &[u8]), Refusal>
     ensures { Finds (λ x. (x.0, x.1.now)) result (sized_at 4 bytes.now) }
 {
@@ -108,7 +108,7 @@ pub fn medium_at(alloc: Global, bytes: &[u8]) -> Result<(Bytes, &[u8]), Refusal>
     front_at(alloc, u64::from(len), rest)
 }
 
-/// Bytes behind their length in eight bytes.
+/// Bytes after their length in eight bytes.
 pub fn long_at(alloc: Global, bytes: &[u8]) -> Result<(Bytes, &[u8]), Refusal>
     ensures { Finds (λ x. (x.0, x.1.now)) result (sized_at 8 bytes.now) }
 {
@@ -116,7 +116,7 @@ pub fn long_at(alloc: Global, bytes: &[u8]) -> Result<(Bytes, &[u8]), Refusal>
     front_at(alloc, len, rest)
 }
 
-/// Writes bytes behind the others.
+/// Writes bytes after the others.
 pub fn put(out: &mut Vec<u8>, bytes: &[u8]) -> Result<(), Refusal>
     ensures appends_them { OnOk result (out.new.items ≡ out.old.items ++ bytes.now) }
     ensures fails_for_memory_alone { IfErr result (λ e. e ≡ Refusal.Memory) }
@@ -154,7 +154,7 @@ pub fn put_u64(out: &mut Vec<u8>, value: u64) -> Result<(), Refusal>
     put(out, &value.to_be_bytes())
 }
 
-/// Writes bytes behind their length in two bytes.
+/// Writes bytes after their length in two bytes.
 pub fn put_short(out: &mut Vec<u8>, bytes: &[u8]) -> Result<(), Refusal>
     requires { length bytes.now < 256 ^ 2 }
     ensures appends_them { OnOk result (out.new.items ≡ out.old.items ++ (sized 2).bytes bytes.now) }
@@ -164,7 +164,7 @@ pub fn put_short(out: &mut Vec<u8>, bytes: &[u8]) -> Result<(), Refusal>
     put(out, bytes)
 }
 
-/// Writes bytes behind their length in four bytes.
+/// Writes bytes after their length in four bytes.
 pub fn put_medium(out: &mut Vec<u8>, bytes: &[u8]) -> Result<(), Refusal>
     requires { length bytes.now < 256 ^ 4 }
     ensures appends_them { OnOk result (out.new.items ≡ out.old.items ++ (sized 4).bytes bytes.now) }
@@ -174,7 +174,7 @@ pub fn put_medium(out: &mut Vec<u8>, bytes: &[u8]) -> Result<(), Refusal>
     put(out, bytes)
 }
 
-/// Writes bytes behind their length in eight bytes.
+/// Writes bytes after their length in eight bytes.
 pub fn put_long(out: &mut Vec<u8>, bytes: &[u8]) -> Result<(), Refusal>
     ensures appends_them { OnOk result (out.new.items ≡ out.old.items ++ (sized 8).bytes bytes.now) }
     ensures fails_for_memory_alone { IfErr result (λ e. e ≡ Refusal.Memory) }

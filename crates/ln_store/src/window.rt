@@ -80,7 +80,7 @@ fn counts_fit(own: Role, updates: &Updates) -> bool
         && covers_all(own.other(), updates, updates.pairs.current.peer)
 }
 
-// Whether the HTLCs that these offer have this id and those behind it.
+// Whether the HTLCs that these offer have this id and those after it.
 fn are_numbered(first: u64, updates: &[Update]) -> bool
     ensures { result ≡ are_numbered first updates.now }
 {

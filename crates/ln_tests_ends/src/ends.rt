@@ -94,7 +94,7 @@ pub fn open_spec(alloc: Global) -> OpenSpec {
     }
 }
 
-/// Puts the message of an output behind others.
+/// Puts the message of an output after others.
 fn collect(output: Output, messages: &mut Vec<Message>) -> Result<(), Refusal> {
     match output {
         Output::Send(message) => push(messages, message),
@@ -105,7 +105,7 @@ fn collect(output: Output, messages: &mut Vec<Message>) -> Result<(), Refusal> {
     }
 }
 
-/// Puts an item behind others.
+/// Puts an item after others.
 pub fn push<T: Drop>(items: &mut Vec<T>, item: T) -> Result<(), Refusal> {
     Ok(items.push(item)?)
 }
@@ -181,7 +181,7 @@ pub fn fundee_side<S: RecordStore + Drop>(alloc: Global, store: S) -> Result<Sid
     }
 }
 
-/// What a side answers to a message, behind others.
+/// What a side answers to a message, after others.
 fn take<S: RecordStore + Drop>(
     alloc: Global,
     message: Message,

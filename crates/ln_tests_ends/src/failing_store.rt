@@ -10,7 +10,7 @@ use ln_store::RecordStore;
 use std::alloc::Global;
 
 /// A store over another one, whose save of this number fails, counted from 0, with the old record left or the new one.
-/// Those behind it don't.
+/// Those after it don't.
 #[derive(Drop)]
 pub struct FailingStore<S: RecordStore + Drop> {
     pub(crate) inner: S,

@@ -262,7 +262,7 @@ fn again(alloc: Global, kind: Kind, bytes: &[u8]) -> Result<Vec<u8>, Refusal> {
     }
 }
 
-/// Whether it is read and written again, and not with a byte behind it.
+/// Whether it is read and written again, and not with a byte after it.
 fn is_one_value(alloc: Global, kind: Kind, row: &[Part]) -> Result<bool, Refusal> {
     let mut bytes = bytes_of(alloc, row)?;
     let same = again(alloc, kind, bytes.as_slice())?.as_slice() == bytes.as_slice();

@@ -225,7 +225,7 @@ const IN_FIRST: [Row; 7] = [
 ];
 
 /// The same appendix, in the second namespace: the greatest type, and then 0; and records of odd types that nobody
-/// knows, each of which is read alone, and so one behind the other too. All are kept.
+/// knows, each of which is read alone, and so one after the other too. All are kept.
 const IN_SECOND: [Row; 2] = [
     (
         &[
@@ -315,7 +315,7 @@ fn first_bytes(records: &[Record]) -> [u8; 3] {
     bytes
 }
 
-/// Whether the bytes behind a record are these.
+/// Whether the bytes after a record are these.
 fn are_bytes(alloc: Global, written: Vec<u8>, bytes: &[u8]) -> bool {
     let written = Bytes::new(written);
     written.len() == bytes.len()

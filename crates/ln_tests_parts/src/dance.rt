@@ -62,14 +62,14 @@ fn numbers(a: &Dance, b: &Dance) -> [u64; 6] {
     ]
 }
 
-/// The funder and the fundee behind an opening.
+/// The funder and the fundee after an opening.
 fn sides(alloc: Global) -> Result<(Box<Dance>, Box<Dance>), Refusal> {
     let a = Box::new(alloc, side(alloc, Role::Funder, &FUNDEE, 0))?;
     let b = Box::new(alloc, side(alloc, Role::Fundee, &FUNDER, 0))?;
     Ok((a, b))
 }
 
-/// What both turns tell behind an offer. What is offered before them and lost with the connection leaves nothing.
+/// What both turns tell after an offer. What is offered before them and lost with the connection leaves nothing.
 fn turns(alloc: Global, a: &mut Dance, b: &mut Dance) -> Result<[Shown; 2], Refusal> {
     offer(a, b)?;
     a.drop_unsigned();
@@ -80,7 +80,7 @@ fn turns(alloc: Global, a: &mut Dance, b: &mut Dance) -> Result<[Shown; 2], Refu
     Ok([out, back])
 }
 
-/// Half of a signature, a secret and a point behind its 02.
+/// Half of a signature, a secret and a point after its 02.
 const OUT: (&str, &str, &str) = (
     "5838e7d2e16412251d796da42ab6afb0c22ab0b83a8d25ae8ad0e71099884744",
     "d362758e70221a3d374987355c7bbb501b05d577e12bb9507c02ebc789bf1f5b",
@@ -176,7 +176,7 @@ fn fields_of(update: &Update) -> [u64; 4] {
     }
 }
 
-/// What the update says that a message of this type tells, whose bytes behind the type are these, each so many times;
+/// What the update says that a message of this type tells, whose bytes after the type are these, each so many times;
 /// zeros where it tells none.
 fn shown_update(alloc: Global, typ: u16, runs: &[(usize, u8)]) -> Result<[u64; 4], Refusal> {
     let made = update_of(message_of(alloc, typ, runs)?);
@@ -188,10 +188,10 @@ fn shown_update(alloc: Global, typ: u16, runs: &[(usize, u8)]) -> Result<[u64; 4
     Ok(fields)
 }
 
-/// A message's type, the bytes behind it, and what it tells.
+/// A message's type, the bytes after it, and what it tells.
 type Row = (u16, &'static [(usize, u8)], [u64; 4]);
 
-/// Behind the channel's id each message has the fields of its table in BOLT 2, high byte first.
+/// After the channel's id each message has the fields of its table in BOLT 2, high byte first.
 const MESSAGES: [Row; 6] = [
     (
         128,

@@ -50,7 +50,7 @@ fn small_payload(rt: HostRuntime) -> Result<(), Fault> {
     Ok(())
 }
 
-/// Behind type 8 the payment's secret, and its total in two bytes.
+/// After type 8 the payment's secret, and its total in two bytes.
 fn payment_data() -> [u8; 36] {
     let mut data = [7; 36];
     data[..2].copy_from_slice(&[8, 34]);

@@ -109,7 +109,7 @@ fn opened(alloc: Global, len: usize) -> Result<Option<usize>, Refusal> {
     Ok(Some(longest(alloc, outputs)?))
 }
 
-/// The same of the `shutdown` and of the record behind it.
+/// The same of the `shutdown` and of the record after it.
 fn closed(alloc: Global, records: usize, script: usize) -> Result<(usize, usize, u32), Refusal> {
     let Some(mut a) = funder_side(alloc, records)? else {
         return Err(Refusal::NotReady);

@@ -118,7 +118,7 @@ fn is_large(event: &ChannelEvent) -> bool {
     matches!(event, ChannelEvent::Added { amount, .. } if amount.value() * 8 > 8000)
 }
 
-/// A hook that writes its digit behind those that stand there, and then answers so to all, or to what is large alone.
+/// A hook that writes its digit after those that stand there, and then answers so to all, or to what is large alone.
 fn hook(
     alloc: Global,
     digits: &Arc<AtomicU64>,

@@ -153,7 +153,7 @@ fn small_partners(rt: HostRuntime) -> Result<(), Refusal> {
 
 const HASH: [u8; 32] = [5; 32];
 
-/// An onion whose payloads begin with these bytes, others behind them.
+/// An onion whose payloads begin with these bytes, others after them.
 fn onion_of(front: [u8; 7], rest: u8, hmac: &str) -> [u8; 1366] {
     let mut onion = [rest; 1366];
     onion[..34].copy_from_slice(&[0; 34]);

@@ -72,7 +72,7 @@ fn with_offer(alloc: Global) -> Result<BaseState, Refusal> {
     })
 }
 
-/// What is told of the fundee's log of this base and these updates behind it, where one can be made of them with these
+/// What is told of the fundee's log of this base and these updates after it, where one can be made of them with these
 /// counts.
 fn loaded(
     alloc: Global,

@@ -252,7 +252,7 @@ fn agree(moved: &UpdateLog, whole: &UpdateLog, alloc: Global) -> Result<bool, Re
     )
 }
 
-/// Both take these steps, and agree behind each.
+/// Both take these steps, and agree after each.
 fn agree_behind(
     moved: &mut UpdateLog,
     whole: &mut UpdateLog,
@@ -393,7 +393,7 @@ fn with_offer() -> Standing {
     standing
 }
 
-/// What the peer refuses a fulfilment by, behind these updates of the side that fulfils.
+/// What the peer refuses a fulfilment by, after these updates of the side that fulfils.
 fn peers_refusal(alloc: Global, own: &[What]) -> Result<Option<Refusal>, Refusal> {
     let own = updates(alloc, own)?;
     let held = updates(alloc, &[Add(0, 5000, 400)])?;

@@ -33,7 +33,7 @@ const FIELDS: [(u16, usize, &str); 20] = [
     (136, 113, "channel_reestablish"),
 ];
 
-/// What is behind so many zero bytes of fields, and what is said of it: the records, types that are not known, and
+/// What is after so many zero bytes of fields, and what is said of it: the records, types that are not known, and
 /// the order in which faults are told.
 const TAILS: [(u16, usize, &[u8], &str); 22] = [
     // BOLT 1, "Appendix C: Message Extension"

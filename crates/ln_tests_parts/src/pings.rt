@@ -116,7 +116,7 @@ const ROWS: [Row; 18] = [
     (&[0, 0], &[], Err(Fault::Truncated)),
     (&[0, 5, 0, 18, 0, 2, 0], &[], Err(Fault::Truncated)),
     (&[0, 6, 0, 18, 0, 2, 0, 1], &[], Err(Fault::Truncated)),
-    // faults of the records behind a ping
+    // faults of the records after a ping
     (
         &[0, 8, 0, 18, 0, 2, 0, 0, 2, 0],
         &[],
@@ -135,14 +135,14 @@ const ROWS: [Row; 18] = [
     ),
 ];
 
-/// The bytes behind others.
+/// The bytes after others.
 fn behind(alloc: Global, front: &[u8], bytes: &[u8]) -> Result<Vec<u8>, AllocError> {
     let mut all = Vec::from_slice(alloc, front)?;
     all.extend_from_slice(bytes)?;
     Ok(all)
 }
 
-/// Whether a row is answered as it says behind so many pings, none or one, in pieces of at most `most` bytes.
+/// Whether a row is answered as it says after so many pings, none or one, in pieces of at most `most` bytes.
 fn is_row_answered(
     alloc: Global,
     row: &Row,
@@ -159,7 +159,7 @@ fn is_row_answered(
     Ok(is_answered(alloc, &input, &output, answer, most))
 }
 
-/// The same alone, in pieces of three sizes, and behind a ping.
+/// The same alone, in pieces of three sizes, and after a ping.
 fn is_answered_always(alloc: Global, row: &Row) -> bool {
     is_row_answered(alloc, row, 0, 1) == Ok(true)
         && is_row_answered(alloc, row, 0, 3) == Ok(true)
@@ -234,7 +234,7 @@ fn result_of(alloc: Global, reads: u64, writes: u64) -> (Result<u64, Fault>, Opt
     (outcome.answer, written, outcome.failures)
 }
 
-/// Whether a failure of the reader's call of this number, counted from 0, is answered by 63, behind the pongs of the
+/// Whether a failure of the reader's call of this number, counted from 0, is answered by 63, after the pongs of the
 /// pings that were read whole.
 fn is_failed_read(alloc: Global, calls: u8) -> bool {
     let whole = usize::from(calls / 8) * 8;
@@ -249,7 +249,7 @@ fn failing_reads(rt: HostRuntime) {
     assert!(rt; result_of(rt.alloc(), 25, NEVER) == (Ok(3), Some(24), 0));
 }
 
-/// The same of the writer: 63, behind a beginning of the right pongs.
+/// The same of the writer: 63, after a beginning of the right pongs.
 fn is_failed_write(alloc: Global, calls: u64) -> bool {
     let (answer, written, failures) = result_of(alloc, NEVER, calls);
     answer == Err(Fault::Io) && written.is_some() && failures == 1

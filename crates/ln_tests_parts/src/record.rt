@@ -253,7 +253,7 @@ fn digit(sign: u8) -> u8 {
     }
 }
 
-/// Writes the bytes of these digits behind the others.
+/// Writes the bytes of these digits after the others.
 fn put_hex(out: &mut Vec<u8>, digits: &[u8]) -> Result<(), Refusal> {
     let mut high = None;
     for sign in digits {

@@ -56,7 +56,7 @@ pub const OPENING: Opening = Opening {
 
 pub const CHANNEL: [u8; 32] = [9; 32];
 
-/// A side behind so many commitments of either, with nothing proposed.
+/// A side after so many commitments of either, with nothing proposed.
 pub fn side(alloc: Global, role: Role, peer: &ToyKeys, past: u64) -> Dance {
     let number = past % 0x1_0000_0000_0000;
     let numbers = Numbers {
@@ -73,7 +73,7 @@ pub fn side(alloc: Global, role: Role, peer: &ToyKeys, past: u64) -> Dance {
     Dance::new(CHANNEL, updates, numbers, told, Later::Signature)
 }
 
-/// The message of this type whose bytes behind the type are these, each so many times.
+/// The message of this type whose bytes after the type are these, each so many times.
 pub fn message_of(alloc: Global, typ: u16, runs: &[(usize, u8)]) -> Result<Message, Refusal> {
     let mut bytes = Vec::from_slice(alloc, &typ.to_be_bytes())?;
     for (count, byte) in runs {

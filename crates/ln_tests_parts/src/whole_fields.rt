@@ -6,7 +6,7 @@ use ln_msgs::{Counted, Field, Incoming, Item, Message, answer_pings, decode};
 use ln_refusals::{LostData, PeerRule, Refusal};
 use std::alloc::{AllocError, Global};
 
-// A type, how many bytes its fields of fixed size take, the bytes of those behind them, and the names of all.
+// A type, how many bytes its fields of fixed size take, the bytes of those after them, and the names of all.
 type Row = (u16, usize, &'static [u8], &'static [&'static str]);
 
 const FAILED: Row = (131, 40, &[0, 2, 8, 9], &["channel_id", "id", "reason"]);
@@ -133,7 +133,7 @@ fn bytes_of(alloc: Global, typ: u16, fixed: usize, tail: &[u8]) -> Result<Vec<u8
     Ok(bytes)
 }
 
-// Puts a length or a count behind others, in two bytes.
+// Puts a length or a count after others, in two bytes.
 fn put_count(bytes: &mut Vec<u8>, count: usize) -> Result<(), AllocError> {
     let count = u16::try_from(count).unwrap_or(u16::MAX);
     bytes.extend_from_slice(&count.to_be_bytes())
@@ -144,7 +144,7 @@ fn put_sized(bytes: &mut Vec<u8>, value: &[u8]) -> Result<(), AllocError> {
     bytes.extend_from_slice(value)
 }
 
-// Puts the bytes of a value behind others, of a list its count alone.
+// Puts the bytes of a value after others, of a list its count alone.
 fn put(bytes: &mut Vec<u8>, value: &Item<'_>) -> Result<(), AllocError> {
     match *value {
         Item::U8(number) => bytes.extend_from_slice(&[number]),

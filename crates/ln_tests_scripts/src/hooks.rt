@@ -169,7 +169,7 @@ fn hooks_are_called(rt: HostRuntime) {
     assert_eq!(rt; are_shown(rt.alloc(), &parts, &told), Ok(true));
 }
 
-// Behind the event that its channel is closed a dispatcher serves none, over restarts too.
+// After the event that its channel is closed a dispatcher serves none, over restarts too.
 #[test]
 fn the_close_is_last(rt: HostRuntime) {
     let parts = [

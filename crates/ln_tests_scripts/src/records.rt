@@ -19,7 +19,7 @@ fn is_record(alloc: Global, bytes: &[u8]) -> bool {
     }
 }
 
-// Whether the end of channel 0 at a node has a record behind the steps of a script.
+// Whether the end of channel 0 at a node has a record after the steps of a script.
 fn has_record(alloc: Global, text: &str, letter: u8) -> Result<bool, Refusal> {
     let mut world: Box<World<ToyKeys>> = Box::new(alloc, World::new(alloc))?;
     let mut lines: Vec<Line> = Vec::new(alloc);

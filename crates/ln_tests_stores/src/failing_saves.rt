@@ -102,7 +102,7 @@ fn shown_of_new<S: RecordStore + Drop>(
     shown(alloc, play, &mut a, &mut b, at)
 }
 
-/// Where an end's save fails, at which of its saves behind the opening, and what is told then where its store has the
+/// Where an end's save fails, at which of its saves after the opening, and what is told then where its store has the
 /// record of before, and where it has the one that was to be saved.
 type Shown = (Role, u64, &'static str, &'static str);
 

@@ -87,7 +87,7 @@ impl<S: RecordStore + Drop> Player<S> {
         }
     }
 
-    /// How it is behind a save that failed: what a command is refused by, how many saves have failed, and whether its
+    /// How it is after a save that failed: what a command is refused by, how many saves have failed, and whether its
     /// record is as it was before.
     pub fn stopped(&mut self, alloc: Global) -> Result<(u32, u64, bool), Refusal> {
         let sign = self
@@ -153,7 +153,7 @@ fn pass<S: RecordStore + Drop>(
     queue(messages, &mut y.inbox)
 }
 
-/// Puts items behind others.
+/// Puts items after others.
 fn queue<T: Drop>(items: Vec<T>, others: &mut VecDeque<T>) -> Result<(), Refusal> {
     for item in items {
         others.push_back(item)?;

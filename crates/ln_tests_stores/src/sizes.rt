@@ -16,7 +16,7 @@ use std::alloc::Global;
 use std::fs;
 use std::test::Fail;
 
-/// The record of 1.5 MB, behind all others.
+/// The record of 1.5 MB, after all others.
 const GREAT: Sample = Sample {
     id: 255,
     len: 1_572_864,
@@ -54,7 +54,7 @@ fn has_them<S: RecordStore>(alloc: Global, store: &mut S) -> Result<bool, Refusa
     Ok(count == 1001 && is_last && GREAT.is_in(alloc, store)?)
 }
 
-/// Fills a store over a database, or says whether it has all records; and what is behind its connection.
+/// Fills a store over a database, or says whether it has all records; and what is after its connection.
 fn worked_over<S: Alter + Drop>(
     alloc: Global,
     connection: Connection<S>,
@@ -73,7 +73,7 @@ fn worked_over<S: Alter + Drop>(
     }
 }
 
-/// The same of one over files, and the files behind it.
+/// The same of one over files, and the files after it.
 fn worked_with(alloc: Global, disks: Disks, fills: bool) -> (Result<bool, Refusal>, Disks)
     requires log { IsFresh disks.log × IsTrue (memory_is_usable (inner_of disks.log)) }
     requires db { IsFresh disks.db × IsTrue (memory_is_usable (inner_of disks.db)) }

@@ -41,7 +41,7 @@ enum Work {
     Begins,
     /// It is given the record of the save.
     Saves,
-    /// Its records are compared with those of before and those behind the save.
+    /// Its records are compared with those of before and those after the save.
     Looks,
 }
 
@@ -86,7 +86,7 @@ fn shown_of<S: RecordStore>(alloc: Global, store: &mut S, case: &Case, work: Wor
     }
 }
 
-/// What is told of work with a store over a database, and what is behind its connection. It is generic, as the type of
+/// What is told of work with a store over a database, and what is after its connection. It is generic, as the type of
 /// a database over files is dear to name.
 fn shown_over<S: Alter + Drop>(
     alloc: Global,
@@ -103,7 +103,7 @@ fn shown_over<S: Alter + Drop>(
     }
 }
 
-/// What is told of work with a store over files, and the files behind it.
+/// What is told of work with a store over files, and the files after it.
 fn shown_with(alloc: Global, disks: Disks, case: &Case, work: Work) -> (Said, Disks)
     requires log { IsFresh disks.log × IsTrue (memory_is_usable (inner_of disks.log)) }
     requires db { IsFresh disks.db × IsTrue (memory_is_usable (inner_of disks.db)) }
@@ -314,7 +314,7 @@ fn stops_of(alloc: Global, case: &Case) -> Result<[(u64, Option<u64>); 2], Refus
     Ok(told)
 }
 
-// A commit writes its pages behind the log, syncs it, writes the byte that makes them count, and syncs it again: at
+// A commit writes its pages after the log, syncs it, writes the byte that makes them count, and syncs it again: at
 // least four calls of the log. A log that is copied into the database file writes that and syncs it: at least two.
 #[test]
 fn saves(rt: HostRuntime) -> Result<(), Refusal> {

@@ -15,7 +15,7 @@ use ln_store::stored::{
 };
 use std::alloc::Global;
 
-/// A bit at the front of the bytes, in a byte, and the bytes behind it. Error: 70 where there is none.
+/// A bit at the front of the bytes, in a byte, and the bytes after it. Error: 70 where there is none.
 #[tactic(auto, unfolding(crate::specs::Forms::bit))]
 pub(crate) fn bit_at(bytes: &[u8]) -> Result<(bool, &[u8]), Refusal>
     ensures { Finds (λ x. (x.0, x.1.now)) result (forms.bit.at bytes.now) }

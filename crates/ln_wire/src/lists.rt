@@ -10,7 +10,7 @@ use ln_refusals::Refusal;
 use ln_store::stored::{array_at, array_fits, put, put_u8, put_u64, u64_at};
 use std::alloc::Global;
 
-// So many values one behind the other.
+// So many values one after the other.
 fn items_at<T: Wire + Drop>(
     alloc: Global,
     count: u64,
@@ -57,7 +57,7 @@ pub(crate) fn optional_at<T: Wire + Drop>(
     }
 }
 
-// Writes the values one behind the other.
+// Writes the values one after the other.
 fn put_items<T: Wire>(out: &mut Vec<u8>, items: &[T]) -> Result<(), Refusal>
     requires { list_all T.format.fits items.now ≡ true }
     ensures appends_them { OnOk result (out.new.items ≡ out.old.items ++ flat_map T.format.bytes items.now) }

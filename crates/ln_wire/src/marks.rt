@@ -30,7 +30,7 @@ fn id_of(block: u32, tx: u32, output: u16) -> ShortId
     ShortId { block, tx, output }
 }
 
-/// The short channel id at the front of the bytes, and the bytes behind it. Error: 70 where there are fewer than eight.
+/// The short channel id at the front of the bytes, and the bytes after it. Error: 70 where there are fewer than eight.
 #[tactic(auto, unfolding(crate::specs::Commands::short_id))]
 pub(crate) fn short_id_at(bytes: &[u8]) -> Result<(ShortId, &[u8]), Refusal>
     ensures { Finds (λ x. (x.0, x.1.now)) result (it.short_id.at bytes.now) }
@@ -56,7 +56,7 @@ pub(crate) fn put_short_id(out: &mut Vec<u8>, id: &ShortId) -> Result<(), Refusa
     put(out, &id.to_bytes())
 }
 
-/// The mark at the front of the bytes, and the bytes behind it. Errors: 70 where there is none, 60 where there is no
+/// The mark at the front of the bytes, and the bytes after it. Errors: 70 where there is none, 60 where there is no
 /// memory for a reason.
 #[tactic(auto, unfolding(crate::specs::Commands::any_mark, ln_store::specs::Items::stored_mark))]
 pub(crate) fn mark_at(alloc: Global, bytes: &[u8]) -> Result<(Mark, &[u8]), Refusal>

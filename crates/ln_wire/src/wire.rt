@@ -11,7 +11,7 @@ pub trait Wire: Sized {
     /// How it is written and read.
     ghost format: { Format Self };
 
-    /// The value at the front of the bytes, and the bytes behind it. Errors: 70 where there is none, 60 where there is
+    /// The value at the front of the bytes, and the bytes after it. Errors: 70 where there is none, 60 where there is
     /// no memory.
     fn read(alloc: Global, bytes: &[u8]) -> Result<(Self, &[u8]), Refusal>
         ensures { Finds (λ x. (x.0, x.1.now)) result (format.at bytes.now) };
@@ -20,7 +20,7 @@ pub trait Wire: Sized {
     fn fits(&self) -> bool
         ensures { result ≡ format.fits self.now };
 
-    /// Writes the value behind the bytes. Error: 60 alone, where there is no memory.
+    /// Writes the value after the bytes. Error: 60 alone, where there is no memory.
     fn write(&self, out: &mut Vec<u8>) -> Result<(), Refusal>
         requires { format.fits self.now ≡ true }
         ensures appends_the_value { OnOk result (out.new.items ≡ out.old.items ++ format.bytes self.now) }

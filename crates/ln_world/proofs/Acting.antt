@@ -138,7 +138,7 @@ plain_names x f (Learns l g) n = tt
 plain_names x f (Closes l g) n = tt
 plain_names x f (Notes c l g) n = absurd n
 
--- ---- the world behind an act
+-- ---- the world after an act
 
 module _ {K : Type 0} (k : Ghosts K) (e : End) (v : Verdict) (w : World K) where
   -- where the book has given this command, which makes this act, or none

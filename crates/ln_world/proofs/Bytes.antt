@@ -1,4 +1,4 @@
--- A byte of a list, 0 behind its end.
+-- A byte of a list, 0 after its end.
 use Rattle.std.proofs.Common.{◌≡◌, ℕ, zero, suc, ◌≤◌, List, [], ◌∷◌, length, refl, arith, get_or}
 use Rattle.ln_world.specs.BookReports.{byte_at}
 

@@ -42,7 +42,7 @@ module _ {K : Type 0} (k : Ghosts K) where
   ran_channels n ss =
       ap (λ (d : Dispatchers K). d.channels) (ran n ss) ∙ dispatchers_plain.ran k n (plains k ss (empty n))
 
-  -- what holds of each channel behind a run of channels holds behind the run of the world
+  -- what holds of each channel after a run of channels holds after the run of the world
   pub of_each : (P : Both K → Type 0)
       → ((ss : List (ChannelStep K k)) → channel_promise.OfEach P (channels.run k ss channels.empty))
       → (ss : List (Step K k × Verdict)) (n : ℕ) → OfEach P (run k ss (empty n))

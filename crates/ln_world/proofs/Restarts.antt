@@ -61,7 +61,7 @@ module _ {K : Type 0} (k : Ghosts K) (n : Node) (w : World K)
   back = are_back k.signer n new new_open (small_all (moved k.signer (restart_moves n)) (λ c. refl) cs small)
       (anew_signed k.signer n n (itself n) cs open_)
 
-  -- whatever the book was: a stop behind an act comes to the same
+  -- whatever the book was: a stop after an act comes to the same
   pub comes_back : (s t : Scene) → s.links ≡ links_of n cs → t.links ≡ links_of n new
       → t.book ≡ rebuilt_htlcs (snapshots (ends_below 256 n new)) → HavePayments channel_id_of s
       → HavePayments channel_id_of t × HoldAlike channel_id_of t

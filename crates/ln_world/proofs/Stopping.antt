@@ -133,7 +133,7 @@ module _ {K : Type 0} (k : Ghosts K) where
     stopped_holds None may xs same = quiet_holds k e v w h (stopped_by None xs) refl (same refl)
     stopped_holds (Some a) may xs same = let m = may a refl in stops a m.0 m.1 xs
 
-    -- ---- behind it
+    -- ---- after it
 
     stop_links : (side : Role) (a : ChannelAct) (id : List ℕ) (p : Both K)
         → (place_of side (moves k.signer id (Stops side a) p)).link

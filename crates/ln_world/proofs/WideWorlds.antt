@@ -406,7 +406,7 @@ module _ {K : Type 0} (k : Ghosts K) where
   dispatcher_plain_so (dispatcher_step.Dispatch e) d is = tt
   dispatcher_plain_so (dispatcher_step.Register e hook) d is = tt
 
-  -- ---- dispatchers behind a step
+  -- ---- dispatchers after a step
 
   restarts_so : (n : Node) (w : Channels K) (ds : List Dispatcher) → All IsServing ds
       → All IsServing (map (restarts n w) ds)
@@ -468,7 +468,7 @@ module _ {K : Type 0} (k : Ghosts K) where
   prepared_so (step.Dispatch e) w is h = h.nodes
   prepared_so (step.Register e hook) w is h = h.nodes
 
-  -- ---- and behind it
+  -- ---- and after it
 
   answered_so : (e : End) (a : Option PendingAnswer) (told : List Line) (b : Book) → IsBook b
       → IsBook (answered e a told b)

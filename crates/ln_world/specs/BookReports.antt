@@ -84,7 +84,7 @@ abbrev pub with_events : List ℕ → ℕ → ℕ → ChannelEnd → Book → Bo
 with_events id n zero e b = b
 with_events id n (suc k) e b = with_events id (n + 1) k e (with_event id (undecided n e) b)
 
--- of those behind the count that it had told before
+-- of those after the count that it had told before
 abbrev pub with_held : List ℕ → ℕ → Option ChannelEnd → Book → Book
 with_held id before None b = b
 with_held id before (Some e) b = with_events id before (event_count (Some e) - before) e b

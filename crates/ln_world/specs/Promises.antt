@@ -31,7 +31,7 @@ OfEach P w = promise.OfEach P w.dispatchers
 abbrev pub events_of : {K : Type 0} → (k : Ghosts K) → ℕ → ℕ → Role → List (Step K k × Verdict) → List ChannelEvent
 events_of k hooks n side ss = promise.events_of k hooks n side (plains k ss (empty hooks))
 
--- nothing stands behind the close among an end's events, and each hook's calls are, each once and in order, a beginning
+-- nothing stands after the close among an end's events, and each hook's calls are, each once and in order, a beginning
 -- of these from its place on; every event below an epoch's start was dispatched
 abbrev pub CallsFollow : {K : Type 0} → (k : Ghosts K) → ℕ → List (Step K k × Verdict) → Type 0
 CallsFollow k hooks ss = promise.CallsFollow k hooks (plains k ss (empty hooks))

@@ -188,7 +188,7 @@ asked_unbegun e act.Decide w = None
 asked_unbegun e (act.Resume n v) w = None
 asked_unbegun e a w = asked e a w
 
--- A node stops behind an act. A book that knows of nothing that is held so refuses to resume it, and the node stops all
+-- A node stops after an act. A book that knows of nothing that is held so refuses to resume it, and the node stops all
 -- the same: nothing is done then.
 abbrev pub stops_behind : {K : Type 0} {k : Ghosts K} → End → Option ChannelAct → Option ℕ → Option (DispatchStep K k)
 stops_behind e (Some x) n = Some (dispatcher_step.StopAfter e x)
@@ -223,7 +223,7 @@ abbrev pub lines_by : {K : Type 0} → (k : Ghosts K) → Verdict → Option (Di
 lines_by k v None d = line.Idle ∷ []
 lines_by k v (Some s) d = dispatchers.step_lines k v s d
 
--- ---- what a step makes of the books: before the step of dispatchers, and behind it
+-- ---- what a step makes of the books: before the step of dispatchers, and after it
 
 -- something is entered in a node's book
 abbrev pub entered : Node → Entry → List NodeBook → List NodeBook
@@ -246,7 +246,7 @@ prepared (step.StopBefore e a) w = handed_out e (asked_unbegun e a w) w.nodes
 prepared (step.StopAfter e a) w = handed_out e (asked e a w) w.nodes
 prepared s w = w.nodes
 
--- what the books have to do behind a step: routes and use can change in these alone
+-- what the books have to do after a step: routes and use can change in these alone
 
 abbrev pub asks_by : Option Command → ℕ → Option PendingAnswer
 asks_by None next = None
@@ -309,7 +309,7 @@ reported e before a told new b = with_held (id_of e) before (end_at e new) (answ
 abbrev pub unanswered : End → Bool → Book → Book
 unanswered e out b = if out then replied (id_of e) (Err 62) b else b
 
--- what an end has kept, behind a lost connection
+-- what an end has kept, after a lost connection
 abbrev pub saved_dropped : End → Option ChannelEnd → Book → Book
 saved_dropped e None b = b
 saved_dropped e (Some x) b = with_dropped (id_of e) x b
@@ -332,7 +332,7 @@ met new None xs = xs
 met new (Some c) xs =
     changed c.fundee (followed new.channels.channels) (changed c.funder (followed new.channels.channels) xs)
 
--- where dispatchers are so behind the step, and these lines were told of it
+-- where dispatchers are so after the step, and these lines were told of it
 abbrev pub concluded : {K : Type 0} → FollowUp → List Line → Dispatchers K → List NodeBook → List NodeBook
 concluded follow_up.None told new xs = xs
 concluded (follow_up.Set n) told new xs = changed n (followed new.channels.channels) xs

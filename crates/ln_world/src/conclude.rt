@@ -1,4 +1,4 @@
-//! What the books of nodes do behind a step: they are told what their ends have answered and come to hold, and follow
+//! What the books of nodes do after a step: they are told what their ends have answered and come to hold, and follow
 //! them.
 
 ghost use Rattle.std.specs.Prelude.{◌≡◌, ◌++◌, OnOk, IfErr, option_copied};
@@ -248,7 +248,7 @@ fn conclude_meet<K: ChannelKeys + Copy>(
     follow_node(alloc, dispatchers, nodes, fundee)
 }
 
-/// What the books do behind a step, of which these lines were told. 60 where there is no memory.
+/// What the books do after a step, of which these lines were told. 60 where there is no memory.
 pub(crate) fn conclude<K: ChannelKeys + Copy>(
     alloc: Global,
     dispatchers: &Nodes<K>,

@@ -1,4 +1,4 @@
-//! What the books of nodes have to do behind a step.
+//! What the books of nodes have to do after a step.
 
 use ln_world_dispatch::{Choice, End, Node};
 
@@ -20,7 +20,7 @@ pub enum DecisionNote {
     Resumed(u64, Choice),
 }
 
-/// What the books have to do behind a step.
+/// What the books have to do after a step.
 #[derive(Clone, Copy, PartialEq, Eq)]
 pub enum FollowUp {
     /// Nothing: the step is no matter of books, or couldn't be taken.

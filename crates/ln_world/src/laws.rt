@@ -23,9 +23,9 @@ use ln_keys::ChannelKeys;
 
 /// The main law, in three parts. In each channel, what either end holds as irrevocably committed is, each update once
 /// and in the order in which it was sent, a beginning of what the other end has covered by a signature. Of all that an
-/// end sends, no `update_add_htlc` stands behind its `shutdown`. Each dispatcher's calls to a hook are, each once and
+/// end sends, no `update_add_htlc` stands after its `shutdown`. Each dispatcher's calls to a hook are, each once and
 /// in order, a beginning of its end's committed events from the one that was next as the hook was registered; none
-/// comes behind the close; and each event below the one that an epoch of the dispatcher starts at was dispatched.
+/// comes after the close; and each event below the one that an epoch of the dispatcher starts at was dispatched.
 pub fn headline<K: ChannelKeys + Copy>()
     ensures holds_what_is_covered { AfterEachRun K.ChannelKeys (OfEach Headline) }
     ensures adds_nothing_late { (steps : List (Step K K.ChannelKeys × Verdict)) (hooks number : ℕ)

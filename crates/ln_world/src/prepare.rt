@@ -298,7 +298,7 @@ fn resumes(number: u64) -> ChannelAct
     })
 }
 
-// What the books have to do behind an act that isn't begun.
+// What the books have to do after an act that isn't begun.
 fn refusing(end: End, resumed: Option<u64>) -> FollowUp
     ensures { result ≡ refusing end resumed }
 {
@@ -387,7 +387,7 @@ fn prepare_stop_before<K: ChannelKeys + Copy>(
     }
 }
 
-// A node stops behind an act of its end that isn't begun: all the same where its book has refused that.
+// A node stops after an act of its end that isn't begun: all the same where its book has refused that.
 fn stop_unbegun<K: ChannelKeys + Copy>(
     end: End,
     resumed: Option<u64>,
@@ -404,7 +404,7 @@ fn stop_unbegun<K: ChannelKeys + Copy>(
     }
 }
 
-// A node stops behind an act of its end. 60 where there is no memory.
+// A node stops after an act of its end. 60 where there is no memory.
 fn prepare_stop_after<K: ChannelKeys + Copy>(
     alloc: Global,
     dispatchers: &Nodes<K>,
@@ -448,7 +448,7 @@ fn prepare_height(
     Ok(FollowUp::Set(node))
 }
 
-/// What the books do before a step: the step of dispatchers that it is, if any, and what they have to do behind it. 60
+/// What the books do before a step: the step of dispatchers that it is, if any, and what they have to do after it. 60
 /// where there is no memory.
 pub(crate) fn prepare<K: ChannelKeys + Copy>(
     alloc: Global,

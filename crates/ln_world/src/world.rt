@@ -115,7 +115,7 @@ impl<K: ChannelKeys + Copy, H: Serve> World<K, H> {
         report_follow_up(follow_up, told.as_slice(), lines)
     }
 
-    /// A world behind these steps, one after the other, with these hooks, which steps name by their places in the list;
+    /// A world after these steps, one after the other, with these hooks, which steps name by their places in the list;
     /// what is told of each step joins the lines. What a step makes of it is as in `step`. A hook has one slot at most;
     /// where a node restarts or stops, the hooks of its dispatchers are set aside, as they stood, and are called no
     /// more.

@@ -53,7 +53,7 @@ same_lines e id (Ok d) said is =
     ap (answer_lines e id) (sym is) ∙ ap (λ n. lines_of e n d.outputs) (same_numbers d.stage)
 same_lines e id (Err r) said is = ap (answer_lines e id) (sym is)
 
--- both ends behind an answer, of which this was said
+-- both ends after an answer, of which this was said
 pub answered_so : {K : Type 0} (after : Refusal → State K → State K) (id : List ℕ) (row said : Result Done Refusal)
     (p : Both K) (l : State K) (y : SimEnd K) → l ≡ left after row p.x.link → as_saved row ≡ said
     → y ≡ reaches (sent_by id said) p.y

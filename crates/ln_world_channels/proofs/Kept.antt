@@ -453,7 +453,7 @@ module _ {K : Type 0} (signer : K → Signer) where
   from_side Funder q = q
   from_side Fundee q = pair.turned q
 
-  -- the pair's steps that it is: one, or none for a warning that is passed over; and behind it a save, where the link
+  -- the pair's steps that it is: one, or none for a warning that is passed over; and after it a save, where the link
   -- answers it
   record Acted (id : List ℕ) (side : Role) (a : Act) (p : Both K) (r : IsRun id p) : Type 0 where
     steps : List Step
@@ -542,7 +542,7 @@ module _ {K : Type 0} (signer : K → Signer) where
         connection = refl;
       }
 
-  -- as it acts, and may be saved behind that
+  -- as it acts, and may be saved after that
   funder_acts : (saved : Bool) (id : List ℕ) (a : Act) (p : Both K) (r : IsRun id p)
       → Mirrors id r.funders r.fundees (acts signer id a p)
       (saved_if saved (pair.acts (signer r.funders) (of_pair a) (ends_of id p r)))
@@ -648,7 +648,7 @@ module _ {K : Type 0} (signer : K → Signer) where
       went_by id p _ r h.steps (tale_of id (By side a) p) (IsAct a) h.wide h.mirrors h.x h.y h.moves_are h.told_x
       h.told_y
 
-  -- ---- its node stops behind the act: it loses its connection, and all that it has sent in the act
+  -- ---- its node stops after the act: it loses its connection, and all that it has sent in the act
 
   abbrev breaks : Role → ℕ → List Step
   breaks side n = pair.By side pair.Lose ∷ pair.By side (pair.Cut n) ∷ []

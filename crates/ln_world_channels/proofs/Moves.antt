@@ -363,7 +363,7 @@ module _ {K : Type 0} (signer : K → Signer) (id : List ℕ) (kx ky : K) where
   abbrev pub Stays : Out → Both K → Ends → Type 0
   Stays out p q = (saved : Bool) × Mirrors id kx ky p (saved_if saved q) × IsAside out
 
-  -- the ends come to this, and x may be saved behind it
+  -- the ends come to this, and x may be saved after it
   abbrev pub Comes : Out → List machine.Move → List Output → Both K → Ends → Ends → Type 0
   Comes out ms os p q r = (saved : Bool) × Mirrors id kx ky p (saved_if saved r) × Says out.sent q r × Tells out ms os
 

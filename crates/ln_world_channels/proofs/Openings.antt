@@ -73,7 +73,7 @@ module _ (a b : Signer) (s : OpenSpec) (c : Config) where
 
 -- ---- what nodes bring
 
--- one behind another
+-- one after another
 infixr 10 ◌and◌
 ◌and◌ : {A B : Type 0} → A → B → A × B
 x and y = (x, y)

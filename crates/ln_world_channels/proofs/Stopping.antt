@@ -1,4 +1,4 @@
--- Where a node stops behind an act of its end, that end is as the act leaves it, and then the node's ends come back.
+-- Where a node stops after an act of its end, that end is as the act leaves it, and then the node's ends come back.
 use Rattle.std.proofs.Common.{◌≡◌, ℕ, List, [], ◌∷◌, refl, sym, ap, ◌∙◌, subst, Bool, true, false, cond, ◌==◌}
 use Rattle.std.proofs.Common.{Option, Some, None}
 use Rattle.ln_msgs.specs.declared.messages.message.Message.{Message}
@@ -29,7 +29,7 @@ module _ {K : Type 0} (signer : K → Signer) where
   unheard_so id act.Deliver p = delivered_so id p.x.inbox p
   unheard_so id (act.Send c) p = refl
 
-  -- it lacks a record where it lacks one behind the act
+  -- it lacks a record where it lacks one after the act
   pub lacks_acted : (side : Role) (id : List ℕ) (a : Act) (p : Both K)
       → LinkLacks (unheard signer a (place_of side p)).link
       → LinkLacks (place_of side (moves signer id (By side a) p)).link

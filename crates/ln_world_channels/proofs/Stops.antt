@@ -1,4 +1,4 @@
--- A node that stops behind an act of its end, told from that end: the links are at the ends of a pair behind the act,
+-- A node that stops after an act of its end, told from that end: the links are at the ends of a pair after the act,
 -- the loss of the connection, and the loss of all that the act has sent.
 use Rattle.std.proofs.Common.{◌≡◌, ℕ, List, [], refl, sym, ap, ◌∙◌, subst, true}
 use Rattle.ln_keys.specs.Signer.{Signer}
@@ -18,7 +18,7 @@ abbrev pub ends_stopped : Signer → ℕ → Ends → Ends
 ends_stopped keys n r = pair.acts keys (Cut n) (pair.acts keys Lose r)
 
 module _ {K : Type 0} (signer : K → Signer) (id : List ℕ) (kx ky : K) where
-  -- p at the ends q, and p' at the ends r, which are x's act behind these
+  -- p at the ends q, and p' at the ends r, which are x's act after these
   pub stopped_so : (p p' : Both K) (q r : Ends) (cut : IsCutOff q (pair.acts (signer kx) Lose r))
       → IsDropped r.x_line r.x → Mirrors id kx ky p q → Mirrors id kx ky p' r
       → Mirrors id kx ky (record { x = restarted p'.x; y = p.y }) (ends_stopped (signer kx) cut.left r)

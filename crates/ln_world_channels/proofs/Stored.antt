@@ -66,7 +66,7 @@ was_empty (stage.AwaitsCreated c) s' rs keeps none h = h
 was_empty (stage.AwaitsSigned c) s' rs keeps none h = h
 was_empty stage.Gone s' rs keeps none h = h
 
--- behind a save, and where nothing was saved
+-- after a save, and where nothing was saved
 stays_empty : (f : Option Refusal) (s s' : Stage) (rs rs' : Records) → KeepsChannel s s'
     → (rs' ≡ rs) ⊎ (rs' ≡ stored_end f (saved_end s') rs) → HasNothing (saved_end s) rs → HasNothing (saved_end s') rs'
 stays_empty f s s' rs rs' keeps is h = by (saved_end s') refl is

@@ -50,7 +50,7 @@ abbrev pub left : {K : Type 0} → (Refusal → State K → State K) → Result 
 left after (Ok d) l = settled d l
 left after (Err r) l = after r l
 
--- what it sends; behind a refusal the reply
+-- what it sends; after a refusal the reply
 abbrev pub sent_by : List ℕ → Result Done Refusal → List Message
 sent_by id (Ok d) = messages_in d.outputs
 sent_by id (Err r) = replies id r
@@ -131,9 +131,9 @@ restarted p = record { keys = p.keys; link = back p.keys p.link (saved_end p.lin
 abbrev pub restarts : {K : Type 0} → Both K → Both K
 restarts p = record { x = restarted p.x; y = p.y }
 
--- ---- it acts, and its node stops behind the save
+-- ---- it acts, and its node stops after the save
 
--- what it is behind the act, whoever gets what it hands out
+-- what it is after the act, whoever gets what it hands out
 abbrev pub delivered_unheard : {K : Type 0} → (K → Signer) → List Message → SimEnd K → SimEnd K
 delivered_unheard signer [] p = p
 delivered_unheard signer (m ∷ ms) p =

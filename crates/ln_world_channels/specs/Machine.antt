@@ -50,7 +50,7 @@ abbrev pub machine_of : {K : Type 0} → Option (WorldChannel K) → Option Mach
 machine_of None = None
 machine_of (Some c) = machine_of_stages c.both.x.link.stage c.both.y.link.stage
 
--- ---- a message, by what the link was before and is behind it
+-- ---- a message, by what the link was before and is after it
 
 abbrev pub moves_to : Role → Message → End → Stage → List machine.Move
 moves_to side m e (stage.Funded f) = moves_between side m e f
@@ -89,7 +89,7 @@ moves_of_act signer side (act.Send c) p =
 abbrev pub moves_of_disconnect : Role → ConnectionState → List machine.Move
 moves_of_disconnect side l = if is_down l then [] else Drop side ∷ []
 
--- behind an act a stop is one too: no act makes a connection, or ends one
+-- after an act a stop is one too: no act makes a connection, or ends one
 abbrev pub moves_of_stop : {K : Type 0} → (K → Signer) → Role → Act → SimEnd K → List machine.Move
 moves_of_stop signer side a p = moves_of_act signer side a p ++ moves_of_disconnect side p.link.connection
 
@@ -185,6 +185,6 @@ EventsAreTold k n side ss = events_in (all_told k n side ss empty) ≡ numbered 
 abbrev pub UndecidedFollow : {K : Type 0} → (k : Ghosts K) → ℕ → Role → List (Step K k) → World K → Type 0
 UndecidedFollow k n side ss w = AreInStep side (events_by k n side ss) (channel n w.channels)
 
--- behind the close comes no event among those that the side's end hands out
+-- after the close comes no event among those that the side's end hands out
 abbrev pub HandsCloseLast : {K : Type 0} → (k : Ghosts K) → ℕ → Role → List (Step K k) → Type 0
 HandsCloseLast k n side ss = ClosesLast (unnumbered (all_told k n side ss empty))

@@ -56,6 +56,6 @@ sent_in k n side s w = in_channel k (sends k.signer side) s w (channel n w.chann
 abbrev pub all_sent : {K : Type 0} → (k : Ghosts K) → ℕ → Role → List (Step K k) → World K → List Message
 all_sent k n side ss w = over k (sent_in k n side) ss w
 
--- of all that either end sends no update_add_htlc stands behind its shutdown
+-- of all that either end sends no update_add_htlc stands after its shutdown
 abbrev pub NoneAddsLate : {K : Type 0} → (k : Ghosts K) → ℕ → List (Step K k) → World K → Type 0
 NoneAddsLate k n ss w = AddsBefore false (all_sent k n Funder ss w) × AddsBefore false (all_sent k n Fundee ss w)

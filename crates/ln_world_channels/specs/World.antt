@@ -127,7 +127,7 @@ abbrev pub stops_before : {K : Type 0} → (K → Signer) → End → Act → Wo
 stops_before signer e a w =
     if may_be_done e a w.channels then everywhere signer (restart_moves e.node) w else w
 
--- the node stops behind the act's save
+-- the node stops after the act's save
 abbrev pub stops_after : {K : Type 0} → (K → Signer) → End → Act → World K → World K
 stops_after signer e a w = if may_be_done e a w.channels then everywhere signer (stop_moves e a) w else w
 

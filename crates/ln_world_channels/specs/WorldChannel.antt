@@ -77,7 +77,7 @@ halt_moves n c = by (side_of n c) Halts
 abbrev pub restart_moves : {K : Type 0} → Node → WorldChannel K → List Move
 restart_moves n c = by (side_of n c) Restarts
 
--- a node stops behind an act of its end in the channel with this number; its other ends come back as they were saved
+-- a node stops after an act of its end in the channel with this number; its other ends come back as they were saved
 abbrev pub stop_moves : {K : Type 0} → End → Act → WorldChannel K → List Move
 stop_moves e a c =
     if c.number == e.channel then by (side_of e.node c) (λ side. Stops side a) else restart_moves e.node c

@@ -236,7 +236,7 @@ fn pass_on<K: ChannelKeys + Copy>(
     }
 }
 
-/// The end takes the oldest message in flight to it. 60 where there is no memory, 70 where it has no record behind
+/// The end takes the oldest message in flight to it. 60 where there is no memory, 70 where it has no record after
 /// that.
 fn deliver<K: ChannelKeys + Copy>(
     alloc: Global,
@@ -263,7 +263,7 @@ fn deliver<K: ChannelKeys + Copy>(
     }
 }
 
-/// The end is given a command. 60 where there is no memory, 70 where it has no record behind that.
+/// The end is given a command. 60 where there is no memory, 70 where it has no record after that.
 fn give<K: ChannelKeys + Copy>(
     alloc: Global,
     end: End,
@@ -282,7 +282,7 @@ fn give<K: ChannelKeys + Copy>(
     pass_on(alloc, end, x.link(), answer, y, lines)
 }
 
-/// The end acts. 60 where there is no memory, 70 where it has no record behind that.
+/// The end acts. 60 where there is no memory, 70 where it has no record after that.
 pub(crate) fn act<K: ChannelKeys + Copy>(
     alloc: Global,
     end: End,
@@ -304,7 +304,7 @@ pub(crate) fn act<K: ChannelKeys + Copy>(
 }
 
 /// The end takes the oldest message in flight to it; what it hands out is lost. 60 where there is no memory, 70 where
-/// it has no record behind that.
+/// it has no record after that.
 fn deliver_unheard<K: ChannelKeys + Copy>(alloc: Global, x: &mut SimEnd<K>) -> Result<(), Refusal>
     ensures acted { OnOk result (x.new ≡ delivered_unheard K.signer x.old.inbox x.old) }
     ensures fails { IfErr result (λ e. ByRecord e (LinkLacks (delivered_unheard K.signer x.old.inbox x.old).link)) }
@@ -316,7 +316,7 @@ fn deliver_unheard<K: ChannelKeys + Copy>(alloc: Global, x: &mut SimEnd<K>) -> R
     Ok(())
 }
 
-/// The end is given a command; what it hands out is lost. 60 where there is no memory, 70 where it has no record behind
+/// The end is given a command; what it hands out is lost. 60 where there is no memory, 70 where it has no record after
 /// that.
 fn give_unheard<K: ChannelKeys + Copy>(
     alloc: Global,
@@ -330,7 +330,7 @@ fn give_unheard<K: ChannelKeys + Copy>(
     Ok(())
 }
 
-/// The end acts; what it hands out is lost. 60 where there is no memory, 70 where it has no record behind that.
+/// The end acts; what it hands out is lost. 60 where there is no memory, 70 where it has no record after that.
 pub(crate) fn act_unheard<K: ChannelKeys + Copy>(
     alloc: Global,
     x: &mut SimEnd<K>,

@@ -97,7 +97,7 @@ impl<K: ChannelKeys + Copy> Channels<K> {
         Ok(())
     }
 
-    /// An end acts, where its channel is there. 60 where there is no memory, 70 where the end has no record behind
+    /// An end acts, where its channel is there. 60 where there is no memory, 70 where the end has no record after
     /// that.
     pub(crate) fn act(
         &mut self,
@@ -169,7 +169,7 @@ impl<K: ChannelKeys + Copy> Channels<K> {
     }
 
     /// An end acts, where its channel is there; what it hands out is lost. 60 where there is no memory, 70 where the
-    /// end has no record behind that.
+    /// end has no record after that.
     fn act_unheard(&mut self, alloc: Global, end: End, what: Act) -> Result<(), Refusal>
         ensures acted { OnOk result (self.new ≡ unheard_at K.signer end what self.old) }
         ensures fails { IfErr result (λ e. ByRecord e (ActLacksAt K.signer end what self.old)) }
@@ -184,7 +184,7 @@ impl<K: ChannelKeys + Copy> Channels<K> {
     }
 
     /// An end acts, and then its node stops: what the act hands out is lost, and each end of the node comes back from
-    /// its record. 60 where there is no memory, 70 where the end has no record behind the act.
+    /// its record. 60 where there is no memory, 70 where the end has no record after the act.
     pub(crate) fn stop(&mut self, alloc: Global, end: End, what: Act) -> Result<(), Refusal>
         ensures moved { OnOk result (self.new ≡ all_moved K.signer (stop_moves end what) self.old) }
         ensures fails { IfErr result (λ e. ByRecord e (ActLacksAt K.signer end what self.old)) }

@@ -83,7 +83,7 @@ pub fn commands_are_done_exactly<K: ChannelKeys + Copy>()
 {}
 
 /// A law: of all that either end of the channel with this number sends in these steps since it was opened, over all its
-/// connections and over restarts of its nodes, no `update_add_htlc` stands behind a `shutdown`.
+/// connections and over restarts of its nodes, no `update_add_htlc` stands after a `shutdown`.
 pub fn no_add_follows_a_shutdown<K: ChannelKeys + Copy>()
     ensures { (steps : List (Step K K.ChannelKeys)) (number : ℕ) → NoneAddsLate K.ChannelKeys number steps empty }
 {}

@@ -44,7 +44,7 @@ pub fn undecided_events_are_the_machines<K: ChannelKeys + Copy>()
         → UndecidedFollow K.ChannelKeys number side steps (run K.ChannelKeys steps empty) }
 {}
 
-/// A law: behind the event that the channel with this number is closed comes no event: for either end it is the last of
+/// A law: after the event that the channel with this number is closed comes no event: for either end it is the last of
 /// those of the moves for its side, and of those that the end hands out in these steps.
 pub fn close_is_last<K: ChannelKeys + Copy>()
     ensures of_the_moves { (steps : List (Step K K.ChannelKeys)) (number : ℕ) (side : Role)

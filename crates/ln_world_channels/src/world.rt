@@ -160,7 +160,7 @@ impl<K: ChannelKeys + Copy> World<K> {
         Ok(())
     }
 
-    /// The end's node stops behind the act's save, where it can act. 60 where there is no memory, 70 where the end has
+    /// The end's node stops after the act's save, where it can act. 60 where there is no memory, 70 where the end has
     /// no record as the act leaves it.
     fn stop_after(
         &mut self,
@@ -208,7 +208,7 @@ impl<K: ChannelKeys + Copy> World<K> {
     /// and nothing else, whatever the act would have come to.
     ///
     /// Errors: 60 where there is no memory; 70 where an end has no record as an act or the opening leaves it, which is
-    /// never so of steps that are as wide as in code (`every_end_has_a_record`). Behind an error that end has halted,
+    /// never so of steps that are as wide as in code (`every_end_has_a_record`). After an error that end has halted,
     /// and its record is gone.
     pub fn step(
         &mut self,

@@ -109,7 +109,7 @@ less : (b : Bool) (m : ℕ) → cond b 1 0 + m ≤ 1 → m ≤ 1
 less true m h = omega (arith, h)
 less false m h = omega (arith, h)
 
--- answers that begin anew behind the calls so far, by what is told of each hook
+-- answers that begin anew after the calls so far, by what is told of each hook
 pub all_heard : (l : Epoch) (answers : Answers) (last : ℕ → Verdict) (count : ℕ → ℕ)
     → ((i : ℕ) → answers i (count i) ≡ last i) → (ss : List HookSlot) (rs : List Verdict) → AsMany ss rs
     → ((i : ℕ) → sum_slots (one_at i l) ss ≤ 1) → ((i : ℕ) → TellsOf i l ss rs (last i) (count i))

@@ -102,7 +102,7 @@ abbrev InLedger : (ℕ → Type 0) → Result Ledger Refusal → Type 0
 InLedger P (Ok l) = P l.decided
 InLedger P (Err r) = Unit {0}
 
--- a decision is kept to: P holds behind the event where it holds before it
+-- a decision is kept to: P holds after the event where it holds before it
 abbrev pub KeptByCommand : (ℕ → Type 0) → Command → Type 0
 KeptByCommand P (command.Decide event mark) = P event → P (event + 1)
 KeptByCommand P c = Unit {0}

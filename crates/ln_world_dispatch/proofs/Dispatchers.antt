@@ -309,7 +309,7 @@ module _ {K : Type 0} (k : Ghosts K) where
       (λ d found s. registered_so (events_behind k d.end.channel d.side done) hook d s) h
   registers_by false done e hook ds h = h
 
-  -- the dispatchers behind a step, by the events before it
+  -- the dispatchers after a step, by the events before it
   step_so : (done : List (ChannelStep K k)) (v : Verdict) (s : Step K k) (w : World K) (new : Channels K)
       → w.channels ≡ channels.run k done channels.empty
       → Aligned new.channels (with_opened k s w) → AllStand done w.dispatchers

@@ -69,7 +69,7 @@ all_taken [] (suc n) h = refl
 all_taken (x ∷ xs) zero h = absurd (omega (arith, h))
 all_taken (x ∷ xs) (suc n) h = ap (λ (ys : List _). x ∷ ys) (all_taken xs n (omega (arith, h)))
 
--- what a slice of the whole list leaves is the list behind it
+-- what a slice of the whole list leaves is the list after it
 back_is : {A : Type 0} (xs now : List A) (n : ℕ) → length now ≡ length xs → n ≡ length xs
     → take n (now ++ drop (length now) xs) ≡ now
 back_is xs now n same is =

@@ -659,7 +659,7 @@ module _ {K : Type 0} (k : Ghosts K) where
       cond (may_open o w.channels) (w.dispatchers ++ new_dispatchers o.channel o.funder o.fundee) w.dispatchers
   with_opened s w = w.dispatchers
 
-  -- behind what the channels do in a step, and before what the dispatchers do
+  -- after what the channels do in a step, and before what the dispatchers do
   pub channels_move : (s : Step K k) (w : World K) → Aligned w.channels.channels w.dispatchers
       → Aligned (moved_by k (plain k s w) w.channels).channels (with_opened s w)
   channels_move (step.Fees n fees) w h = h

@@ -34,7 +34,7 @@ module _ {K : Type 0} (k : Ghosts K) where
       → (run k ss (empty n)).channels ≡ channels.run k (plains k ss (empty n)) channels.empty
   ran n ss = ran_so ss (empty n)
 
-  -- what holds of each channel behind a run of channels holds behind the run of nodes
+  -- what holds of each channel after a run of channels holds after the run of nodes
   pub of_each : (P : Both K → Type 0)
       → ((ss : List (ChannelStep K k)) → promise.OfEach P (channels.run k ss channels.empty))
       → (ss : List (Step K k × Verdict)) (n : ℕ) → OfEach P (run k ss (empty n))

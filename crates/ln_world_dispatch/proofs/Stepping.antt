@@ -85,7 +85,7 @@ same_aside calls n new (d ∷ ds) (t ∷ ts) =
     ∙ ap (λ us. aside_where calls (is_node d.end.node n) t ∷ us) (same_aside calls n new ds ts)
 
 module _ {K : Type 0} (k : Ghosts K) {H : Type 0} (calls : H → ChannelEvent → Verdict → H → Type 0) where
-  -- the hooks say v in it, and stand so behind it, whatever was handed in
+  -- the hooks say v in it, and stand so after it, whatever was handed in
   abbrev Moves : Step K k → Verdict → World K → List (Tables calls) → List (Option H) → List Dispatcher → List ℕ
       → List (Tables calls) → List (Option H) → Type 0
   Moves s v w ts left ds' used' ts' left' =
@@ -303,7 +303,7 @@ module _ {K : Type 0} (k : Ghosts K) {H : Type 0} (calls : H → ChannelEvent �
       (λ handed a count stand. anew n w (happens k Continue (step.Restart n) w).channels ts ts' left left' aside still
       handed a stand)
 
-  -- a stop, where the end could act; the tables are set aside behind it
+  -- a stop, where the end could act; the tables are set aside after it
   abbrev stopped_by : Bool → Node → World K → Channels K → List Dispatcher
   stopped_by b n w new = cond b (all_restart n new w.dispatchers) w.dispatchers
 

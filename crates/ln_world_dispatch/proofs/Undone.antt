@@ -1,4 +1,4 @@
--- No step of channels undoes a decision: each end has decided as many events behind it as before, or more.
+-- No step of channels undoes a decision: each end has decided as many events after it as before, or more.
 use Rattle.std.proofs.Common.{◌≡◌, ℕ, ◌≤◌, ◌==◌, List, [], ◌∷◌, ◌++◌, map, refl, sym, subst, arith}
 use Rattle.std.proofs.Common.{Bool, true, false, cond, Option, Some, inr}
 use Rattle.ln_keys.specs.declared.keys.ChannelKeys.{Ghosts}
@@ -168,7 +168,7 @@ module _ {K : Type 0} (k : Ghosts K) where
       (everywhere_so k.signer (stop_moves x a) w e side)
   never_undone (channel_step.Up n) w e side = at_so k.signer n up_moves w e side
 
-  -- so what dispatchers keep is enough behind it too
+  -- so what dispatchers keep is enough after it too
   pub keep_on : (s : ChannelStep K k) (w : Channels K) (ds : List KeptDispatcher) → AllKeep (decided_at w) ds
       → AllKeep (decided_at (channels.happens k s w)) ds
   keep_on s w ds h =

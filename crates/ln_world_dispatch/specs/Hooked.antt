@@ -1,4 +1,4 @@
--- Nodes whose hooks are called: what the hooks say in each step, and where each hook stands behind them.
+-- Nodes whose hooks are called: what the hooks say in each step, and where each hook stands after them.
 use Rattle.std.specs.Prelude.{◌≡◌, ℕ, List, [], ◌∷◌, ◌++◌, ◌⊎◌, length, Bool, true, false, Option, Some, None}
 use Rattle.ln_refusals.specs.declared.refusal.Refusal.{Refusal}
 use Rattle.ln_refusals.specs.declared.refusal.Refusal.TheVariants as refusal
@@ -56,7 +56,7 @@ module _ {K : Type 0} (k : Ghosts K) {H : Type 0} (calls : H → ChannelEvent �
       (handed : List H) (a : Answers) → length handed ≡ w.hooks → Stand calls handed a w.used w.dispatchers ts left
       → Stepped handed a s w w' ts' left' lines lines'
 
-  -- behind these steps, by some answers of the hooks that were handed in; each hook stands at the end of its chain, and
+  -- after these steps, by some answers of the hooks that were handed in; each hook stands at the end of its chain, and
   -- each dispatcher's calls follow its end's committed events
   pub record HasRun (handed : List H) (ss : List (Step K k)) (w : World K) (ts : List (Tables calls))
       (left : List (Option H)) (lines lines' : List Line) : Type 0 where

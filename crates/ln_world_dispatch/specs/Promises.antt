@@ -41,7 +41,7 @@ OfEach P w = promise.OfEach P w.channels
 abbrev pub events_of : {K : Type 0} → (k : Ghosts K) → ℕ → ℕ → Role → List (Step K k × Verdict) → List ChannelEvent
 events_of k hooks n side ss = as_told (events side (history k n (plains k ss (empty hooks)) channels.empty) None)
 
--- nothing stands behind the close among an end's events, and each hook's calls are, each once and in order, a beginning
+-- nothing stands after the close among an end's events, and each hook's calls are, each once and in order, a beginning
 -- of these from its place on; every event below an epoch's start was dispatched
 abbrev pub Follows : List ChannelEvent → Dispatcher → Type 0
 Follows events d = ClosesLast events × DispatcherFollows events d

@@ -159,7 +159,7 @@ module _ {H : Type 0} (calls : H → ChannelEvent → Verdict → H → Type 0) 
     pub slotted : AllHaveSlots handed a ds ts
     pub offered : IsLeft handed used left
 
-  -- so behind a step in which the hooks say v, by answers that go on from the earlier ones: whatever tells as much, by
+  -- so after a step in which the hooks say v, by answers that go on from the earlier ones: whatever tells as much, by
   -- that the hooks say v in it
   pub record Moved (handed : List H) (a : Answers) (ds : List Dispatcher) (said : Answers → Verdict) (v : Verdict)
       (used' : List ℕ) (ds' : List Dispatcher) (ts' : List Tables) (left' : List (Option H)) : Type 0 where

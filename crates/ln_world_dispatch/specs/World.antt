@@ -181,7 +181,7 @@ abbrev pub served_at : End → Verdict → Option (ℕ × ChannelEvent) → List
 served_at e v None ds = ds
 served_at e v (Some p) ds = at_dispatcher e (serving p.1 v) ds
 
--- where the channels are so behind the step, and the hooks say v of an event
+-- where the channels are so after the step, and the hooks say v of an event
 abbrev pub dispatchers_by : {K : Type 0} → (k : Ghosts K) → Verdict → Step K k → World K → Channels K → List Dispatcher
 dispatchers_by k v (step.Open o) w new =
     if may_open o w.channels then w.dispatchers ++ new_dispatchers o.channel o.funder o.fundee else w.dispatchers

@@ -21,7 +21,7 @@ use ln_keys::ChannelKeys;
 
 /// The main law, in three parts: `ln_world_channels::headline` and `ln_world_channels::no_add_follows_a_shutdown`, of
 /// these steps; and each dispatcher's calls to a hook are, each once and in order, a beginning of its end's committed
-/// events from the one that was next as the hook was registered; none comes behind the close; and each event below the
+/// events from the one that was next as the hook was registered; none comes after the close; and each event below the
 /// one that an epoch of the dispatcher starts at was dispatched.
 pub fn headline<K: ChannelKeys + Copy>()
     ensures holds_what_is_covered { AfterEachRun K.ChannelKeys (OfEach Headline) }

@@ -476,7 +476,7 @@ impl<K: ChannelKeys + Copy> Nodes<K> {
         Ok(())
     }
 
-    // A step that is about channels alone. Behind a refusal nothing is promised of them, nor of what isn't kept.
+    // A step that is about channels alone. After a refusal nothing is promised of them, nor of what isn't kept.
     fn pass(
         &mut self,
         alloc: Global,
@@ -634,7 +634,7 @@ impl<K: ChannelKeys + Copy> Nodes<K> {
         Ok(())
     }
 
-    // A node stops behind an act of its end, where that can act, and its dispatchers begin anew.
+    // A node stops after an act of its end, where that can act, and its dispatchers begin anew.
     fn stop_after(
         &mut self,
         alloc: Global,

@@ -202,7 +202,7 @@ impl<K: ChannelKeys + Copy, H: Serve> World<K, H> {
         Ok(())
     }
 
-    // A node stops behind an act of its end, where that can act, and the hooks of its dispatchers are set aside.
+    // A node stops after an act of its end, where that can act, and the hooks of its dispatchers are set aside.
     fn stop_after(
         &mut self,
         alloc: Global,
@@ -260,7 +260,7 @@ impl<K: ChannelKeys + Copy, H: Serve> World<K, H> {
         }
     }
 
-    /// Nodes behind these steps, one after the other, with these hooks, which steps name by their places in the list;
+    /// Nodes after these steps, one after the other, with these hooks, which steps name by their places in the list;
     /// what is told of each step joins the lines.
     ///
     /// What a step makes of nodes is as in `Nodes::step`. Where a dispatcher serves an event, each hook that has a slot

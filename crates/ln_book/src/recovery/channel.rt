@@ -1,4 +1,4 @@
-//! A channel end answers what a book asks behind a lost connection or a load.
+//! A channel end answers what a book asks after a lost connection or a load.
 
 ghost use Rattle.std.specs.Prelude.{◌≡◌};
 ghost use Rattle.std.specs.List.{list_any};
@@ -9,7 +9,7 @@ use crate::recovery::kept::Kept;
 use ln_channel::Channel;
 use ln_log::{Decision, Mark, Outcome, Pair, Side, Update, UpdateLog, find_add, outcome_of};
 
-// The own updates behind the base.
+// The own updates after the base.
 pub(crate) fn own_window(log: &UpdateLog) -> &[Update]
     ensures { result.now ≡ own_window log.now }
 {

@@ -1,4 +1,4 @@
-//! What a channel has kept, behind a lost connection or a load.
+//! What a channel has kept, after a lost connection or a load.
 
 ghost use Rattle.std.specs.Prelude.{◌≡◌, filter, IfOk, IfErr, option_copied};
 ghost use Rattle.std.specs.List.{find};

@@ -19,7 +19,7 @@ use ln_log::{
 use ln_refusals::Refusal;
 use std::alloc::Global;
 
-// The peer's updates behind the base.
+// The peer's updates after the base.
 fn peer_window(log: &UpdateLog) -> &[Update]
     ensures { result.now ≡ peer_window log.now }
 {
@@ -27,7 +27,7 @@ fn peer_window(log: &UpdateLog) -> &[Update]
     log.between(Side::Peer, first, log.counts(Pair::ToAccept).peer)
 }
 
-// The peer's HTLC of this id, where it is live in the base or was offered behind it.
+// The peer's HTLC of this id, where it is live in the base or was offered after it.
 #[tactic(auto, using(crate::proofs::Lists::found_before, crate::proofs::Lists::found_behind))]
 fn peer_add(id: u64, log: &UpdateLog) -> Option<&Add>
     ensures { option_copied result ≡ add_with id (peer_updates log.now) }
@@ -219,7 +219,7 @@ impl ChannelSnapshot {
     ghost use Rattle.ln_book.specs.Rebuild.{channel_snapshot_of};
 
     /// What the end of a channel has of HTLCs that are forwarded, failed or taken: its own adds that forward others,
-    /// those that are live in its base and those behind it; what became of such adds; and the peer's HTLCs that it has
+    /// those that are live in its base and those after it; what became of such adds; and the peer's HTLCs that it has
     /// decided, each with whether an own removal of it stands in its lists, and whether that is irrevocably committed
     /// (BOLT 2, "Forwarding HTLCs"). A decision has left with its HTLC once the removal is in the base. Takes memory.
     /// Error: 60 alone.

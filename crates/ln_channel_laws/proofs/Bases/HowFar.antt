@@ -1,4 +1,4 @@
--- How far the base of an end may move, by which events are undecided: these, or fewer, or new ones behind them.
+-- How far the base of an end may move, by which events are undecided: these, or fewer, or new ones after them.
 use Rattle.std.proofs.Common.{◌≡◌, ◌⊎◌, inl, inr, ℕ, zero, suc, ◌+◌, ◌<◌, ◌≤◌, List, [], ◌∷◌, ◌++◌, length, take, drop}
 use Rattle.std.proofs.Common.{refl, sym, ap, ◌∙◌, subst, arith, Bool, true, false, cond, Option, Some, None, option_map}
 use Rattle.std.proofs.Common.{nat_lt, is_some}
@@ -39,7 +39,7 @@ pub rests_so : (P Q : List EventRef → Type 0) → ((rs : List EventRef) → P 
 rests_so P Q f [] h = f [] h
 rests_so P Q f (r ∷ rs) h = (f (r ∷ rs) h.0, rests_so P Q f rs h.1)
 
--- with more behind them
+-- with more after them
 rests-append : (P Q : List EventRef → Type 0) (R : EventRef → Type 0) (ss : List EventRef)
     → ((rs : List EventRef) → All R rs → P rs → Q (rs ++ ss)) → EachRest Q ss → (rs : List EventRef) → All R rs
     → EachRest P rs → EachRest Q (rs ++ ss)
@@ -116,7 +116,7 @@ module _ (f : EventRef → Option ℕ) where
   none_told n [] h = refl
   none_told n (r ∷ rs) h = ap (λ o. least f (lesser o n) rs) h.0 ∙ none_told n rs h.1
 
-  -- new events from c on come behind events below c: the least of the first stays, where one of them has a number; and
+  -- new events from c on come after events below c: the least of the first stays, where one of them has a number; and
   -- else the least of the new ones is it
   module _ (c d : ℕ) (up : c ≤ d) (ss : List EventRef) (new : All (λ r. IsFrom c (f r)) ss) where
     abbrev Grows : List EventRef → Type 0

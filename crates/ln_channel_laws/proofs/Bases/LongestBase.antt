@@ -104,7 +104,7 @@ all_so : (P Q : EventRef → Type 0) → ((r : EventRef) → P r → Q r) → (r
 all_so P Q f [] h = tt
 all_so P Q f (r ∷ rs) h = (f r h.0, all_so P Q f rs h.1)
 
--- ---- lists that change behind what is held
+-- ---- lists that change after what is held
 
 cut : (n m : ℕ) (us vs : List Change) → n ≤ m → take m vs ≡ take m us → take n us ≡ take n vs
 cut n m us vs le e = sym (take-take n m us le) ∙ ap (take n) (sym e) ∙ take-take n m vs le
@@ -560,7 +560,7 @@ both_longest a b s c funder fundee steps keys o =
 
 -- ---- what is known of each end otherwise
 
--- its lists and counts, and that the undecided events tell of updates that are held, behind the base
+-- its lists and counts, and that the undecided events tell of updates that are held, after the base
 pub record Stands (e : End) : Type 0 where
   pub within : log.IsWithin e.dance.log
   pub own_ids : log.AreNumbered 0 e.dance.log.own

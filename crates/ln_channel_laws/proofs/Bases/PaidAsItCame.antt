@@ -342,7 +342,7 @@ square l h a b own_from own_to peer_from peer_to =
       );
     }
 
--- and with a change of the fee behind it
+-- and with a change of the fee after it
 pub fee_own : (o : Opening) (r : Role) (own peer : List Change) (x : Fee) → AreNumbered 0 peer → IsClosed o r own peer
     → IsClosed o r (own ++ update.Fee x ∷ []) peer
 fee_own o r own peer x ids h =

@@ -159,7 +159,7 @@ module _ (k : Signer) (f : Fees) where
       → Closes k f w r s (length got + 1) ms → Closes k f w r s (length (got ++ u ∷ [])) ms
   one_less w r s got u ms h = subst (λ n. Closes k f w r s n ms) (sym (length-append got (u ∷ []))) h
 
-  -- one more behind them
+  -- one more after them
   closes-last : (w : Sender) (t : ReadinessOf) (v : Closer) (own held : List Change) (all : ℕ)
       (Q : List Change → ℕ → ℕ → ℕ → Type 0) (P : Bool → Bool → Type 0) (got : List Change) (a c r : ℕ) (q s : Bool)
       (ms ns : List Notice) → ((gs : List Change) (b d j : ℕ) (p z : Bool) → Q gs b d j → P p z
@@ -181,7 +181,7 @@ module _ (k : Signer) (f : Fees) where
       (j.0, closes-last w t v own held all Q P got a c r q s ms ns e h i.1 j.1)
   closes-last w t v own held all Q P got a c r q s (Again m ∷ ms) ns e h i j = absurd h
 
-  -- behind messages of which none is one
+  -- after messages of which none is one
   closes-behind : (w : Sender) (t : ReadinessOf) (v : Closer) (own held : List Change) (all : ℕ)
       (Q : List Change → ℕ → ℕ → ℕ → Type 0) (P : Bool → Bool → Type 0) (got : List Change) (a c r : ℕ) (q s : Bool)
       (ms ns : List Notice) → NoCloses ms → ((gs : List Change) (b d j : ℕ) (p z : Bool)

@@ -20,7 +20,7 @@ use Rattle.ln_channel_laws.proofs.Closing.ClosingInFlight.{closer, closes-front,
 use Rattle.ln_channel_laws.proofs.Flight.Images.{message_of, messages_of, side_of}
 use Rattle.ln_channel_laws.proofs.Ends.Acts.{Hold}
 
--- what is left, and what is lost behind it
+-- what is left, and what is lost after it
 pub front : {A : Type 0} (n : ℕ) (l : ConnectionState) (ms : List A) → (ns : List A) × (still_come n l ms ++ ns ≡ ms)
 front n Down ms = ([], append-nil ms)
 front n AwaitingReestablish [] = ([], refl)

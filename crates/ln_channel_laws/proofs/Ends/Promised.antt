@@ -265,7 +265,7 @@ readiness_agrees a b s c funder fundee steps keys o quiet =
       taken_readiness b a p.y p.x p.y_line p.x_line h.to_x quiet.y_met quiet.x_met nx h.hold.told.back,
     )
 
--- ---- no add behind the own shutdown
+-- ---- no add after the own shutdown
 
 pub none_adds_late : (a b : Signer) (s : OpenSpec) (c : Config) (funder fundee : Opened) (steps : List Step)
     → ArePartners a b → Opens a b s c funder fundee

@@ -130,7 +130,7 @@ deeds_line keys Save q is = refl
 
 -- ---- all that was sent is lost, and nothing else
 
--- how many still come, behind the first where an end waits
+-- how many still come, after the first where an end waits
 abbrev count_behind : ConnectionState → List Message → ℕ
 count_behind Down ms = 0
 count_behind AwaitingReestablish [] = 0
@@ -174,6 +174,6 @@ module _ (q r : Ends) (h : IsLeft q r) (g : IsGreeted q.y_line q.to_y) where
     cut = ap (λ ms. record r { x_line = Down; x = end_dropped r.x; to_x = []; to_y = ms }) comes;
   }
 
--- behind the connection's loss
+-- after the connection's loss
 pub cut_off : (keys : Signer) (q r : Ends) → IsLeft q r → IsGreeted q.y_line q.to_y → IsCutOff q (acts keys Lose r)
 cut_off keys q r h g = cut_by q r h g (is_down r.x_line) refl

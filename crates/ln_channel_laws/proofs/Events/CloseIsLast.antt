@@ -268,7 +268,7 @@ told_behind : (es fs : List Event) → NoneCloses (as_told es) → ClosesLast (a
 told_behind es fs h k = subst ClosesLast (sym (told_append es fs)) (behind (as_told es) (as_told fs) h k)
 
 module _ (ms : List Move) (m : Machine) (new : Option Machine) where
-  -- behind this move
+  -- after this move
   abbrev Behind : Role → Move → Type 0
   Behind r move =
       IsRun ms (Some (moved move m)) new → (party r m).closed ≡ None

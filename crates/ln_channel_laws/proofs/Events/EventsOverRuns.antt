@@ -115,7 +115,7 @@ settled_ledger e = begun (has_begun (answers_shutdown e)) (may_start (answers_sh
     owed true = refl
     owed false = refl
 
--- behind the end of a turn
+-- after the end of a turn
 undecided_so : (e : End) → (settled e).ledger.undecided ≡ e.ledger.undecided
 undecided_so e = ap (λ (l : Ledger). l.undecided) (settled_ledger e)
 

@@ -74,7 +74,7 @@ pub record LogStays (l m : Log) (c d : Option ℕ) : Type 0 where
 abbrev pub HeldStays : End → End → Type 0
 HeldStays x n = LogStays x.dance.log n.dance.log x.closing.closed n.closing.closed
 
--- new events stand behind those that were pending, and a first part of them all may have been decided
+-- new events stand after those that were pending, and a first part of them all may have been decided
 pub record Pends (x n : End) (es : List ChannelEvent) : Type 0 where
   pub gone : ℕ
   pub within : gone ≤ length (pending x.ledger.undecided x ++ es)
@@ -133,7 +133,7 @@ pending_append [] ss e = refl
 pending_append (r ∷ rs) ss e =
     ap (cons_option (named_by r e)) (pending_append rs ss e) ∙ one_append (named_by r e) (pending rs e) (pending ss e)
 
--- new entries behind those that there were
+-- new entries after those that there were
 pub enters : (x n : End) (rs : List EventRef) (es : List ChannelEvent) → HeldStays x n
     → n.ledger.undecided ≡ x.ledger.undecided ++ rs → n.ledger.decided ≡ x.ledger.decided
     → pending rs n ≡ es → length rs ≡ length es → NamedIn n rs → All (IsAt x.dance.log.first) rs → Named x
@@ -305,7 +305,7 @@ same_pends x n e named =
 
 -- ---- entries that are decided
 
--- an entry that names an event, and the events behind it
+-- an entry that names an event, and the events after it
 first_gone : (g : ℕ) (o : Option ChannelEvent) (es : List ChannelEvent) (n : ℕ)
     → length (cons_option o es) ≡ suc n → length es ≤ n
     → (drop g es ≡ drop (suc g) (cons_option o es)) × (length es ≡ n)

@@ -321,7 +321,7 @@ funder_dealt (answer.Propose m) d e fee rg os qs h a = absurd (let k : true ≡ 
 
 -- ---- the fundee takes a fee
 
--- what stands behind the first
+-- what stands after the first
 offers-rest : (r : Option (ℕ × ℕ)) (first : ℕ) (bid : Option ℕ) (o : Offer) (os : List Offer)
     → ((o.fee ≡ first) × (is_some bid ≡ true) × Offers r first bid os) ⊎ ((bid ≡ Some o.fee) × AllAre r o.fee os)
     → Offers r first bid os
@@ -369,7 +369,7 @@ pub some_of : (o : Option ℕ) → is_some o ≡ true → (n : ℕ) × (o ≡ So
 some_of None e = absurd (cc)
 some_of (Some n) e = (n, refl)
 
--- the same, whatever stands in front; and then nothing but this fee is behind it
+-- the same, whatever stands in front; and then nothing but this fee is after it
 record Last (d : Deal) (fee : ℕ) (os : List Offer) : Type 0 where
   bid : d.bid ≡ Some fee
   behind : AllAre d.range fee os

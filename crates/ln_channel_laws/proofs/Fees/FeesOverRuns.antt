@@ -193,7 +193,7 @@ answered_by k (answer.Propose n) m p h =
     (message.ClosingSigned (closing_message k (answered_end m (answer.Propose n) p.x) n) ∷ []) p.to_y
     (offers_in p.to_x) refl refl h
 
--- p, behind the message
+-- p, after the message
 fee_taken : (k : Signer) (m : ClosingSigned) (p : Ends) (begun right : Bool) (r : Result FeeAnswer Refusal)
     → RuleSays (deal_of p.x.closing) m.fee_satoshis (range_in m) r → Priced (deal_of p.x.closing) (deal_of p.y.closing)
     (offers_in p.to_y) (record { fee = m.fee_satoshis; range = range_in m } ∷ offers_in p.to_x)
@@ -285,7 +285,7 @@ meets_at k (message.UpdateFailMalformedHtlc m) p h = h
 
 -- ---- a message is delivered
 
--- p, behind the message m
+-- p, after the message m
 abbrev Before : Message → Ends → Type 0
 Before m p = Priced (deal_of p.x.closing) (deal_of p.y.closing) (offers_in p.to_y) (offer_in m ++ offers_in p.to_x)
 

@@ -177,7 +177,7 @@ aside_taken k (Err r) p a is h = absurd (let no : Err r ≡ Ok is.0 = is.1 in cc
 
 -- ---- a closing fee is taken
 
--- behind the answer, before what it sends is on its way
+-- after the answer, before what it sends is on its way
 record Answered (ly : ConnectionState) (d e : Deal) (os qs : List Offer) : Type 0 where
   firm : Firm d
   their_firm : Firm e
@@ -230,7 +230,7 @@ answered_by k (answer.Propose n) m p last h =
     (message.ClosingSigned (closing_message k (answered_end m (answer.Propose n) p.x) n) ∷ []) p.to_y
     (offers_in p.to_x) refl refl h
 
--- an end that has sent a fee has sent one behind an answer too
+-- an end that has sent a fee has sent one after an answer too
 grows : (a : FeeAnswer) (d : Deal) (fee : ℕ) → is_some d.bid ≡ true → is_some (dealt a fee d).bid ≡ true
 grows answer.Nothing d fee h = h
 grows (answer.Close n) d fee h = h
@@ -263,7 +263,7 @@ dealt_by a m ly d e os qs f s p h =
       their_last = λ met up. ap (λ o. hears o qs) (heard_dealt a d fee s h.firm) ∙ h.their_last met up;
     }
 
--- p, behind the message
+-- p, after the message
 fee_taken : (k : Signer) (m : ClosingSigned) (p : Ends) (begun right : Bool) (r : Result FeeAnswer Refusal)
     → RuleSays (deal_of p.x.closing) m.fee_satoshis (range_in m) r → Sure (deal_of p.x.closing) m.fee_satoshis r
     → IsTaken (completed_row k (cond (not begun) (Err refusal.OutOfPlace)
@@ -331,7 +331,7 @@ resume_by (Some r) k m p is c h = absurd (let no : Err r ≡ Ok is.0 = is.1 in c
 
 -- ---- a message is delivered
 
--- p, behind the message m, where x has this line
+-- p, after the message m, where x has this line
 abbrev Before : ConnectionState → Message → Ends → Type 0
 Before l m p = Hearing l p.y_line (deal_of p.x.closing) (deal_of p.y.closing) (offers_in p.to_y)
     (offer_in m ++ offers_in p.to_x)

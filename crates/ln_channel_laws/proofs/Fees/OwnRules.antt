@@ -92,7 +92,7 @@ sure_by (Some n) c fee range e =
 pub sure : (c : Closing) (fee : ℕ) (range : Option (ℕ × ℕ)) → Sure (deal_of c) fee (answer_to c fee range)
 sure c fee range = sure_by c.closed c fee range refl
 
--- ---- behind an answer
+-- ---- after an answer
 
 -- it has heard the fee
 pub heard_dealt : (a : FeeAnswer) (d : Deal) (fee : ℕ) → Sure d fee (Ok a) → Firm d → (dealt a fee d).heard ≡ Some fee

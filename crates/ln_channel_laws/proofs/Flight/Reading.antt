@@ -47,7 +47,7 @@ reads-to w own held all P Q got a c r (Shutdown z ∷ ms) f h = reads-to w own h
 reads-to w own held all P Q got a c r (Close z ∷ ms) f h = reads-to w own held all P Q got a c r ms f h
 reads-to w own held all P Q got a c r (Again n ∷ ms) f h = absurd h
 
--- more messages behind
+-- more messages after
 pub reads-push : (w : Sender) (own held : List Change) (all : ℕ) (P Q : List Change → ℕ → ℕ → ℕ
     → Type 0) (got : List Change) (a c r : ℕ) (ms ns : List Notice)
     → ((g : List Change) (b d s : ℕ) → P g b d s → Reads w own held all Q g b d s ns)

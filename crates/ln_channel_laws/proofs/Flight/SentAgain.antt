@@ -147,7 +147,7 @@ module _ (k : Signer) (m : ChannelReestablish) (e : End) where
       ∙ sym (messages-append c (ready_again n side)
       (owed n r side ++ (shutdown_again side ++ closes_of side.close_message)))
 
--- ---- no add behind the own shutdown
+-- ---- no add after the own shutdown
 
 -- none of these messages passes the test
 abbrev NoneIs : (Message → Bool) → List Message → Type 0

@@ -14,7 +14,7 @@ use Rattle.ln_channel.specs.declared.machine.ConnectionState.TheVariants.{Down, 
 use Rattle.ln_channel_laws.proofs.Flight.Sides.{Both, Notice, Update, Sign, Revoke, Ready, Shutdown, Close, Again}
 use Rattle.ln_channel_laws.proofs.Flight.Sides.{Side}
 
--- an update of the side r is taken behind own, where seen of the other side's stand with it, and the side
+-- an update of the side r is taken after own, where seen of the other side's stand with it, and the side
 -- holds held of them
 pub record FitsBehind (o : Opening) (r : Role) (own seen held : List Change) (u : Change) : Type 0 where
   pub room : is_at_update_limit own ≡ false
@@ -76,7 +76,7 @@ pub record IsDue (w : Sender) (got : List Change) (a c : ℕ) (m : CommitmentSig
   pub covers : got ≡ w.covered
   pub knows : a ≡ w.seen
 
--- a revocation that was sent later than the signature is behind it
+-- a revocation that was sent later than the signature is after it
 abbrev pub IsBehind : Bool → ℕ → ℕ → Type 0
 IsBehind true c signatures = c ≡ signatures
 IsBehind false c signatures = Unit {0}
@@ -117,7 +117,7 @@ Anywhere got a c r = Unit {0}
 abbrev pub holds : Side → List Change
 holds y = take y.current.own y.own
 
--- behind the reestablish: all that y lacks, where x has met it; nothing, where x hasn't; a beginning, where x
+-- after the reestablish: all that y lacks, where x has met it; nothing, where x hasn't; a beginning, where x
 -- is down again
 abbrev pub Carries : ConnectionState → Side → Side → List Notice → Type 0
 Carries Down x y ms = Reads (sender x) y.own (holds y) y.signed.own Anywhere y.got y.acked.own y.number y.revocations ms

@@ -555,7 +555,7 @@ revoked_for s a c acked signed current e (Idle e1 e2 e3 e4 e5 e6) = absurd (omeg
 revoked_for s a c acked signed current e (Sent e1 e2 e3 e4) = absurd (omega (arith, e, e2))
 revoked_for s a c acked signed current e (Answered e1 e2 e3 e4) = (e1, e2, e3, e4)
 
--- behind it no signature waits that was sent before it
+-- after it no signature waits that was sent before it
 not_before : (l : Bool) (c s number revocations seen known more current : ℕ) → c + 1 ≡ s → IsBehind l c s
     → InOrder l number revocations seen known current → InOrder l number (revocations + 1) seen more current
 not_before true c s number revocations seen known more current e b h = absurd (omega (arith, e, b))

@@ -1,4 +1,4 @@
--- Over every list of steps two ends are the machine behind its moves.
+-- Over every list of steps two ends are the machine after its moves.
 use Rattle.std.proofs.Common.{◌≡◌, ℕ, List, [], ◌∷◌, length, refl, sym, ap, ◌∙◌, subst}
 use Rattle.std.proofs.Common.{◌*◌, nat_le, ◌&&◌}
 use Rattle.std.proofs.lemmas.Bool.{leb-true}

@@ -11,7 +11,7 @@ use Rattle.ln_channel_laws.proofs.Flight.Sides.{Close}
 use Rattle.ln_channel_laws.proofs.Flight.Sides.{Again}
 use Rattle.ln_channel_laws.proofs.Flight.Sides.{Side}
 
--- what opens something doesn't stand behind a shutdown
+-- what opens something doesn't stand after a shutdown
 abbrev pub IsAllowed : Bool → Bool → Type 0
 IsAllowed true shut = shut ≡ false
 IsAllowed false shut = Unit {0}

@@ -82,7 +82,7 @@ readiness_up x y to_x to_y k = record { there = up_told x y to_y k.there; back =
 
 -- ---- x takes the reestablish
 
--- what may be said without harm, whatever is said behind it
+-- what may be said without harm, whatever is said after it
 abbrev Harmless : ReadinessOf → (Bool → Bool → Type 0) → Bool → Bool → List Notice → Type 0
 Harmless t Q r s ms = (ns : List Notice) → ReadsReadiness t Q r s ns → ReadsReadiness t Q r s (ms ++ ns)
 
@@ -208,7 +208,7 @@ says_tail x y r e sent = when x.shut refl
       none x.shut y.peer_shut sent (sym d),
     )
 
--- whether y has taken channel_ready, or neither side has a commitment behind the first
+-- whether y has taken channel_ready, or neither side has a commitment after the first
 ready_known : (x y : Side) (lx ly : ConnectionState) (ms ns : List Notice) → ReadinessFlow lx ly x y ms
     → ReadinessFlow ly lx y x ns
     → x.number ≤ y.signatures → (n m : ℕ) → n ≡ y.number → m ≡ x.number

@@ -8,8 +8,8 @@ use Rattle.ln_bytes.specs.Reading.{◌>>=◌}
 use Rattle.ln_bytes.specs.declared.fault.Fault.{Fault}
 use Rattle.ln_bytes.specs.declared.fault.Fault.TheVariants.{Truncated}
 
--- A number of so many bytes, the highest first; so many bytes; a byte string behind its length in two
--- bytes; or a list of items of so many bytes each behind its count in two bytes.
+-- A number of so many bytes, the highest first; so many bytes; a byte string after its length in two
+-- bytes; or a list of items of so many bytes each after its count in two bytes.
 pub data Kind : Type 0 where
   Number : (size : ℕ) → Kind
   Fixed : (size : ℕ) → Kind

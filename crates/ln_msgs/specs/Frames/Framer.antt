@@ -22,7 +22,7 @@ pub record HearsSoFar (bytes : List ℕ) (heard : List Heard) (rest : List ℕ) 
   pub hears : Hears heard front
   pub bytes_are : bytes ≡ front ++ rest
 
--- so many bytes at the front are whole frames of these messages; behind them is no whole frame, or a faulty one
+-- so many bytes at the front are whole frames of these messages; after them is no whole frame, or a faulty one
 pub record HearsFront (bytes : List ℕ) (heard : List Heard) (taken : ℕ) (fault : Option Fault) : Type 0 where
   pub front : List ℕ
   pub rest : List ℕ

@@ -21,7 +21,7 @@ fixed_size (Fixed size ∷ ks) = size + fixed_size ks
 fixed_size (Sized ∷ ks) = 0
 fixed_size (Listed size ∷ ks) = 0
 
--- the fields behind those
+-- the fields after those
 abbrev pub behind_fixed : List field.Kind → List field.Kind
 behind_fixed [] = []
 behind_fixed (Number size ∷ ks) = behind_fixed ks

@@ -31,7 +31,7 @@ formed_bytes (Some form) w = big_bytes 2 w.typ ++ fields_bytes (kinds_of form) w
 abbrev pub wire_bytes : Wire → List ℕ
 wire_bytes w = formed_bytes (form_of w.typ) w
 
--- the fields are those of the form, and the records may stand behind them
+-- the fields are those of the form, and the records may stand after them
 pub record IsFormed (form : Form) (w : Wire) : Type 0 where
   pub typ : w.typ < 65536
   pub values : AreOf (kinds_of form) w.values

@@ -21,7 +21,7 @@ abbrev pub owed : Heard → Option ℕ
 owed (Known w) = if w.typ == 18 then asked w.values else None
 owed (Ignored typ) = None
 
--- what the bytes behind a known type ask for, or their first fault
+-- what the bytes after a known type ask for, or their first fault
 abbrev pub asked_at : Form → ℕ → List ℕ → Result (Option ℕ) Fault
 asked_at form typ payload = formed_at form typ payload >>= λ heard. Ok (owed heard)
 

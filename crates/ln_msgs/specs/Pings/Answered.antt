@@ -21,7 +21,7 @@ module _ (reader reader_after writer writer_after : Option (List ℕ)) where
     pub replied : Appends writer writer_after (replies heard)
     pub counted : count ≡ told (pongs heard)
 
-  -- behind whole frames comes the first fault: that of a message, or an end inside a frame
+  -- after whole frames comes the first fault: that of a message, or an end inside a frame
   abbrev pub HasFirstFault : List ℕ → Fault → Type 0
   HasFirstFault rest f = IsFaulty rest f ⊎ ((f ≡ Truncated) × IsCut rest × IsAtEnd reader_after)
 

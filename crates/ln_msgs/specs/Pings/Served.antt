@@ -7,7 +7,7 @@ use Rattle.ln_msgs.specs.Frames.Frame.{Hears, HasNoFrame, IsFaulty}
 use Rattle.ln_msgs.specs.Pings.Answer.{replies, pongs, told}
 use Rattle.ln_msgs.specs.Pings.Outgoing.{Waiting}
 
--- the front of the bytes is whole frames, whose replies wait now behind what waited; the rest is left
+-- the front of the bytes is whole frames, whose replies wait now after what waited; the rest is left
 pub record Serves (bytes rest : List ℕ) (old new : Waiting) : Type 0 where
   pub heard : List Heard
   pub front : List ℕ

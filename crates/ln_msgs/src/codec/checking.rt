@@ -12,7 +12,7 @@ use crate::messages::form::{Form, Kind, form_of};
 use crate::messages::records::check_records;
 use ln_bytes::Fault;
 
-/// The fault that `read_payload` tells of the bytes behind a type, where there is one. Takes no memory.
+/// The fault that `read_payload` tells of the bytes after a type, where there is one. Takes no memory.
 pub(crate) fn check_payload(typ: u16, payload: &[u8]) -> Result<(), Fault>
     ensures { result ≡ checked (payload_at (form_of typ) typ payload.now) }
 {

@@ -60,7 +60,7 @@ fn read_message(alloc: Global, bytes: &[u8]) -> Result<Incoming, Fault>
     read_payload(alloc, typ, payload)
 }
 
-/// What the bytes behind a type say.
+/// What the bytes after a type say.
 pub(crate) fn read_payload(alloc: Global, typ: u16, payload: &[u8]) -> Result<Incoming, Fault>
     ensures { Gives heard result (payload_at (form_of typ) typ payload.now) }
 {

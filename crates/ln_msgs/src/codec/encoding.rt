@@ -24,7 +24,7 @@ pub const LONGEST_MESSAGE: usize = 65_535;
 /// The bytes of a message (BOLT 1, "Lightning Message Format"): its type in two bytes, the highest first, its
 /// fields, and its records as a TLV stream. Takes memory for them once, and copies each field once.
 ///
-/// The caller sees to it that the records may stand behind the fields, which `fits` tests.
+/// The caller sees to it that the records may stand after the fields, which `fits` tests.
 ///
 /// Errors: 7 where the message, or one field, has too many bytes: more than 65,535 in all. 60 where there is no
 /// memory.

@@ -58,7 +58,7 @@ pub(crate) fn array_at<const N: usize>(bytes: &[u8]) -> Result<([u8; N], &[u8]),
     }
 }
 
-/// The bytes behind a length in two bytes.
+/// The bytes after a length in two bytes.
 #[tactic(auto, unfolding(crate::specs::Codec::Field::string_at))]
 pub(crate) fn sized_at(bytes: &[u8]) -> Result<(&[u8], &[u8]), Fault>
     ensures { Reads (λ x. (x.0.now, x.1.now)) result (string_at bytes.now) }
@@ -71,7 +71,7 @@ pub(crate) fn sized_at(bytes: &[u8]) -> Result<(&[u8], &[u8]), Fault>
     Ok(rest.split_at(len))
 }
 
-/// A byte string behind its length in two bytes. Takes memory for it.
+/// A byte string after its length in two bytes. Takes memory for it.
 pub(crate) fn bytes_at(alloc: Global, bytes: &[u8]) -> Result<(Bytes, &[u8]), Fault>
     ensures { Gives (λ x. (x.0, x.1.now)) result (string_at bytes.now) }
 {
@@ -79,7 +79,7 @@ pub(crate) fn bytes_at(alloc: Global, bytes: &[u8]) -> Result<(Bytes, &[u8]), Fa
     Ok((Bytes::from_slice(alloc, front)?, rest))
 }
 
-/// Signatures behind their count in two bytes. Takes memory for them.
+/// Signatures after their count in two bytes. Takes memory for them.
 #[tactic(auto, unfolding(crate::specs::Codec::Field::list_at))]
 pub(crate) fn signatures_at(alloc: Global, bytes: &[u8]) -> Result<(Signatures, &[u8]), Fault>
     ensures { Gives (λ x. (x.0, x.1.now)) result (list_at 64 bytes.now) }

@@ -10,7 +10,7 @@ use crate::messages::message::Message;
 use crate::messages::records::have_length;
 use ln_bytes::{Record, tlvs_are_valid};
 
-/// Whether the message's records may stand behind its fields: their types rise strictly, each even one is known
+/// Whether the message's records may stand after its fields: their types rise strictly, each even one is known
 /// to the message's type, and each that has a fixed length has it (BOLT 1, "Type-Length-Value Format"). What
 /// was read always does. Takes no memory.
 pub fn fits(message: &Message) -> bool
@@ -19,7 +19,7 @@ pub fn fits(message: &Message) -> bool
     records_fit(message.records().as_slice(), message.form())
 }
 
-/// Whether these records may stand behind the fields of this form.
+/// Whether these records may stand after the fields of this form.
 pub(crate) fn records_fit(records: &[Record], form: &Form) -> bool
     ensures { IsTrue result ↔ (AreValid form.now.known_even.now None records.now
         × IsTrue (are_so_long form.now.lengths.now records.now)) }

@@ -16,7 +16,7 @@ impl OpenChannel {
     ghost use Rattle.ln_msgs.specs.Messages.Message.{Known, Says, wire_bytes};
     ghost use Rattle.ln_msgs.specs.Messages.Typed.{open_wire};
 
-    /// Whether the message's records may stand behind its fields, as `fits` says of any message. Takes no memory.
+    /// Whether the message's records may stand after its fields, as `fits` says of any message. Takes no memory.
     pub fn fits(&self) -> bool
         ensures { IsTrue result ↔ CanBeWritten (open_wire self.now) }
     {
@@ -26,7 +26,7 @@ impl OpenChannel {
     /// The bytes of the message with its type, as `encode` writes them of any message (BOLT 2, "The `open_channel`
     /// Message"). Takes memory for them once.
     ///
-    /// The caller sees to it that the records may stand behind the fields, which `fits` tests.
+    /// The caller sees to it that the records may stand after the fields, which `fits` tests.
     ///
     /// Errors: 7 where the message has more than 65,535 bytes. 60 where there is no memory.
     pub fn encode(&self, alloc: Global) -> Result<Vec<u8>, Fault>
@@ -48,7 +48,7 @@ impl AcceptChannel {
     ghost use Rattle.ln_msgs.specs.Messages.Message.{Known, Says, wire_bytes};
     ghost use Rattle.ln_msgs.specs.Messages.Typed.{accept_wire};
 
-    /// Whether the message's records may stand behind its fields, as `fits` says of any message. Takes no memory.
+    /// Whether the message's records may stand after its fields, as `fits` says of any message. Takes no memory.
     pub fn fits(&self) -> bool
         ensures { IsTrue result ↔ CanBeWritten (accept_wire self.now) }
     {
@@ -58,7 +58,7 @@ impl AcceptChannel {
     /// The bytes of the message with its type, as `encode` writes them of any message (BOLT 2, "The `accept_channel`
     /// Message"). Takes memory for them once.
     ///
-    /// The caller sees to it that the records may stand behind the fields, which `fits` tests.
+    /// The caller sees to it that the records may stand after the fields, which `fits` tests.
     ///
     /// Errors: 7 where the message has more than 65,535 bytes. 60 where there is no memory.
     pub fn encode(&self, alloc: Global) -> Result<Vec<u8>, Fault>

@@ -6,7 +6,7 @@ ghost use Rattle.ln_msgs.specs.Messages.Message.{Heard};
 
 use byteorder::{BigEndian, ByteOrder};
 
-/// The message of the frame at the front, and the bytes behind the frame; none where no whole frame
+/// The message of the frame at the front, and the bytes after the frame; none where no whole frame
 /// is there.
 pub(crate) fn next_frame(bytes: &[u8]) -> Option<(&[u8], &[u8])>
     ensures cuts_off_a_whole_frame { MatchOption result (HasNoFrame bytes.now)

@@ -61,7 +61,7 @@ impl Framer {
 
     /// Takes the next bytes of the stream, and answers the messages that are whole now, in their order.
     ///
-    /// The bytes may be cut anywhere; those behind the last whole frame are held until the rest of it comes. Where
+    /// The bytes may be cut anywhere; those after the last whole frame are held until the rest of it comes. Where
     /// messages stand before a frame that can't be read, this call answers them and the next call the fault. A
     /// framer that found a fault answers it at each call from then on, and looks at no further byte.
     ///
@@ -92,7 +92,7 @@ impl Framer {
         }
     }
 
-    /// Keeps what is left behind the messages that were heard, and answers these.
+    /// Keeps what is left after the messages that were heard, and answers these.
     fn keep(&mut self, read: WholeFrames) -> Result<Vec<Incoming>, Fault>
         requires hears_the_front { HearsFront self.old.held (map heard read.messages.items)
             read.taken read.fault }

@@ -14,7 +14,7 @@ pub struct Shutdown {
     pub channel_id: [u8; 32],
     /// The script that the sender is paid to.
     pub script: Bytes,
-    /// The records behind the fields.
+    /// The records after the fields.
     pub records: Records,
 }
 
@@ -27,7 +27,7 @@ pub struct ClosingSigned {
     pub fee_satoshis: u64,
     /// A signature, 64 bytes.
     pub signature: [u8; 64],
-    /// The records behind the fields.
+    /// The records after the fields.
     pub records: Records,
 }
 

@@ -16,7 +16,7 @@ pub struct CommitmentSigned {
     pub signature: [u8; 64],
     /// A signature for each HTLC.
     pub htlc_signatures: Signatures,
-    /// The records behind the fields.
+    /// The records after the fields.
     pub records: Records,
 }
 
@@ -30,7 +30,7 @@ pub struct RevokeAndAck {
     pub secret: [u8; 32],
     /// The point of the commitment after the next.
     pub next_point: [u8; 33],
-    /// The records behind the fields.
+    /// The records after the fields.
     pub records: Records,
 }
 
@@ -47,7 +47,7 @@ pub struct ChannelReestablish {
     pub last_secret: [u8; 32],
     /// The point of the sender's own commitment.
     pub current_point: [u8; 33],
-    /// The records behind the fields.
+    /// The records after the fields.
     pub records: Records,
 }
 

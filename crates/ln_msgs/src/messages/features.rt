@@ -44,7 +44,7 @@ fn knows_all(features: &[u8], known: &[u16]) -> bool
     true
 }
 
-/// The same for one byte of the map, which has so many bytes behind it.
+/// The same for one byte of the map, which has so many bytes after it.
 fn knows_byte(byte: u8, place: usize, known: &[u16]) -> bool
     ensures true_is_all_known { IsTrue result → (j : ℕ) → j < 8 → bit_at byte j ≡ 1 → j % 2 ≡ 0
         → IsTrue (is_listed known.now (8 * place + j)) }
@@ -59,7 +59,7 @@ fn knows_byte(byte: u8, place: usize, known: &[u16]) -> bool
     true
 }
 
-/// Whether the list has this bit of the byte that has so many bytes behind it.
+/// Whether the list has this bit of the byte that has so many bytes after it.
 fn lists(known: &[u16], place: usize, bit: u8) -> bool
     requires { bit < 8 }
     ensures { result ≡ is_listed known.now (8 * place + bit) }

@@ -3,9 +3,9 @@
 /// A field that hasn't the same size in every message (BOLT 1, "Fundamental Types").
 #[derive(Clone, Copy)]
 pub(crate) enum Kind {
-    /// Bytes behind their length in two bytes.
+    /// Bytes after their length in two bytes.
     Sized,
-    /// Signatures behind their count in two bytes.
+    /// Signatures after their count in two bytes.
     Listed,
 }
 

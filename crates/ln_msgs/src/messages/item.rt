@@ -23,8 +23,8 @@ pub enum Item<'a> {
     U64(u64),
     /// As many bytes as the field always has.
     Fixed(&'a [u8]),
-    /// Bytes behind their length in two bytes.
+    /// Bytes after their length in two bytes.
     Sized(&'a [u8]),
-    /// Signatures behind their count in two bytes.
+    /// Signatures after their count in two bytes.
     Listed(&'a [[u8; 64]]),
 }

@@ -48,7 +48,7 @@ macro_rules! for_each_message {
 
 ghost use Rattle.std.specs.Prelude.{◌≡◌, length, map, IfOk};
 
-/// A message of a known type (BOLT 1, "Lightning Message Format"). Behind its fields each carries the records
+/// A message of a known type (BOLT 1, "Lightning Message Format"). After its fields each carries the records
 /// of its TLV stream, also those of odd types that nobody knows. It drops itself by hand, so that no crate above proves
 /// again how: elsewhere it is looked at, and taken apart by `into_open`, `into_accept` and `into_failure`.
 pub enum Message {
@@ -145,7 +145,7 @@ impl Message {
         named(alloc, self.form().fields, self.items().as_slice())
     }
 
-    /// The records behind the fields. Takes no memory.
+    /// The records after the fields. Takes no memory.
     pub fn records(&self) -> &Records
         ensures { result.now ≡ (wire self.now).records }
     {

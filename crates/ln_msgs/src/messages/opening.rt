@@ -46,7 +46,7 @@ pub struct OpenChannel {
     pub first_per_commitment_point: [u8; 33],
     /// Flags; bit 0 announces the channel.
     pub channel_flags: u8,
-    /// The records behind the fields.
+    /// The records after the fields.
     pub records: Records,
 }
 
@@ -81,7 +81,7 @@ pub struct AcceptChannel {
     pub htlc_basepoint: [u8; 33],
     /// The point of commitment 0.
     pub first_per_commitment_point: [u8; 33],
-    /// The records behind the fields.
+    /// The records after the fields.
     pub records: Records,
 }
 
@@ -97,7 +97,7 @@ pub struct FundingCreated {
     pub output_index: u16,
     /// A signature, 64 bytes.
     pub signature: [u8; 64],
-    /// The records behind the fields.
+    /// The records after the fields.
     pub records: Records,
 }
 
@@ -108,7 +108,7 @@ pub struct FundingSigned {
     pub channel_id: [u8; 32],
     /// A signature, 64 bytes.
     pub signature: [u8; 64],
-    /// The records behind the fields.
+    /// The records after the fields.
     pub records: Records,
 }
 
@@ -119,7 +119,7 @@ pub struct ChannelReady {
     pub channel_id: [u8; 32],
     /// The point of commitment 1.
     pub second_point: [u8; 33],
-    /// The records behind the fields.
+    /// The records after the fields.
     pub records: Records,
 }
 

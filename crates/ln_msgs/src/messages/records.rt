@@ -1,4 +1,4 @@
-//! The records behind the fields of a message.
+//! The records after the fields of a message.
 
 ghost use Rattle.std.specs.Prelude.{◌≡◌};
 ghost use Rattle.std.specs.List.{list_all};

@@ -14,7 +14,7 @@ pub struct Warning {
     pub channel_id: [u8; 32],
     /// What is wrong, as ASCII text or other bytes.
     pub bytes: Bytes,
-    /// The records behind the fields.
+    /// The records after the fields.
     pub records: Records,
 }
 
@@ -25,7 +25,7 @@ pub struct Init {
     pub global_features: Bytes,
     /// Feature bits, the lowest in the last byte.
     pub features: Bytes,
-    /// The records behind the fields.
+    /// The records after the fields.
     pub records: Records,
 }
 
@@ -37,7 +37,7 @@ pub struct Error {
     pub channel_id: [u8; 32],
     /// What is wrong, as ASCII text or other bytes.
     pub bytes: Bytes,
-    /// The records behind the fields.
+    /// The records after the fields.
     pub records: Records,
 }
 
@@ -48,7 +48,7 @@ pub struct Ping {
     pub num_pong_bytes: u16,
     /// Bytes that mean nothing.
     pub ignored: Bytes,
-    /// The records behind the fields.
+    /// The records after the fields.
     pub records: Records,
 }
 
@@ -57,7 +57,7 @@ pub struct Ping {
 pub struct Pong {
     /// Bytes that mean nothing.
     pub ignored: Bytes,
-    /// The records behind the fields.
+    /// The records after the fields.
     pub records: Records,
 }
 

@@ -22,7 +22,7 @@ pub struct UpdateAddHtlc {
     pub cltv_expiry: u32,
     /// The onion packet.
     pub onion: [u8; 1366],
-    /// The records behind the fields.
+    /// The records after the fields.
     pub records: Records,
 }
 
@@ -35,7 +35,7 @@ pub struct UpdateFulfillHtlc {
     pub id: u64,
     /// The preimage of the payment hash.
     pub preimage: [u8; 32],
-    /// The records behind the fields.
+    /// The records after the fields.
     pub records: Records,
 }
 
@@ -48,7 +48,7 @@ pub struct UpdateFailHtlc {
     pub id: u64,
     /// The failure, wrapped for the sender of the payment.
     pub reason: Bytes,
-    /// The records behind the fields.
+    /// The records after the fields.
     pub records: Records,
 }
 
@@ -63,7 +63,7 @@ pub struct UpdateFailMalformedHtlc {
     pub sha256_of_onion: [u8; 32],
     /// The failure code, with the BADONION bit.
     pub failure_code: u16,
-    /// The records behind the fields.
+    /// The records after the fields.
     pub records: Records,
 }
 
@@ -74,7 +74,7 @@ pub struct UpdateFee {
     pub channel_id: [u8; 32],
     /// The feerate from now on, in satoshis for 1000 units of weight.
     pub feerate_per_kw: u32,
-    /// The records behind the fields.
+    /// The records after the fields.
     pub records: Records,
 }
 

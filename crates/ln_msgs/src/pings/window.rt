@@ -14,7 +14,7 @@ pub(crate) const CAPACITY: usize = 262_144;
 /// Bytes in the order in which they were read, at most `CAPACITY` of them. Its memory never grows.
 #[derive(Drop)]
 pub(crate) struct Window {
-    // The bytes are those from `start` to `end`; behind them is room.
+    // The bytes are those from `start` to `end`; after them is room.
     buffer: Vec<u8>,
     start: usize,
     end: usize,
@@ -68,7 +68,7 @@ impl Window {
     /// is 63.
     pub(crate) fn fill<R: Read>(&mut self, reader: &mut Counted<R>) -> Result<bool, Fault>
         requires { length self.old < CAPACITY }
-        // What came stands behind what was there.
+        // What came stands after what was there.
         ensures loses_no_byte { Keeps (prepend_known self.old (R.remaining (inner_of reader.old)))
             (prepend_known self.new (R.remaining (inner_of reader.new))) }
         ensures false_is_the_end { result ≡ Ok false → (self.new ≡ self.old)
@@ -94,7 +94,7 @@ impl Window {
     }
 }
 
-/// Moves the bytes from `start` to `end` to the front, where little room is left behind them. Answers
+/// Moves the bytes from `start` to `end` to the front, where little room is left after them. Answers
 /// where they are.
 fn make_room(buffer: &mut [u8], start: usize, end: usize) -> (usize, usize)
     requires start_before_end { start ≤ end }

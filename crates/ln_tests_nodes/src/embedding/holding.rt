@@ -236,7 +236,7 @@ impl Holding for ToyNode {
     }
 }
 
-/// What a node tells as held by its notices, behind others; and whether it has refused an order.
+/// What a node tells as held by its notices, after others; and whether it has refused an order.
 fn receive<N: Holding, R: Wait>(
     rt: &R,
     alloc: Global,
@@ -255,7 +255,7 @@ fn receive<N: Holding, R: Wait>(
 }
 
 /// The payer offers a payment and signs it, and the payee signs, until it has told one more as held and lists it. Where
-/// it was too early to sign, it does so again: one order at a time, so that no notice is lost behind more of them than
+/// it was too early to sign, it does so again: one order at a time, so that no notice is lost after more of them than
 /// are kept.
 fn offer<N: Holding, R: Wait>(
     rt: &R,
@@ -388,7 +388,7 @@ fn begins<N: Holding, R: Wait + Abort>(
     Ok(())
 }
 
-/// The others are still held behind the restart. One is approved, and comes; one waits until its expiry is near, and
+/// The others are still held after the restart. One is approved, and comes; one waits until its expiry is near, and
 /// fails.
 fn goes_on<N, R>(
     rt: &R,

@@ -4,7 +4,7 @@ use Rattle.ln_msgs.specs.Pings.CountedView.{inner_of, failures_of}
 use Rattle.ln_script.proofs.Telling.{Ahead}
 use Rattle.ln_script.proofs.report.print_each.Given as goal
 
--- what the steps that are left are told as stands behind what was told so far
+-- what the steps that are left are told as stands after what was told so far
 abbrev pub invariant-loop-step : goal.invariant-loop-step
 invariant-loop-step g l = record {
   ahead : Ahead g.H.Serve.calls (failures_of l.fn.writer) (into_iter_items l.step-iterator)

@@ -2,7 +2,7 @@ use Rattle.std.proofs.Common.{◌≡◌, ◌++◌, take}
 use Rattle.std.specs.List.{flat_map}
 use Rattle.ln_wire.proofs.lists.put_items.Given as goal
 
--- the values so far stand behind what was there
+-- the values so far stand after what was there
 abbrev pub invariant-loop-item : goal.invariant-loop-item
 invariant-loop-item g l =
     l.out.items ≡ l.initial.out.items ++ flat_map g.T.Wire.format.bytes (take l.item-index l.items)

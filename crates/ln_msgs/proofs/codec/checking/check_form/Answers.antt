@@ -9,7 +9,7 @@ use Rattle.ln_msgs.specs.Messages.Forms.{kind_of}
 use Rattle.ln_msgs.proofs.Checking.{form_checked}
 use Rattle.ln_msgs.proofs.codec.checking.check_form.Goals as goal
 
--- what is left to check of a row behind what was passed of its fields
+-- what is left to check of a row after what was passed of its fields
 abbrev records_behind : Form → Result (List ℕ) Fault → Result (Unit {0}) Fault
 records_behind form r = r >>= checked_records_at form.known_even.now form.lengths.now
 

@@ -5,7 +5,7 @@ use Rattle.ln_world_channels.specs.World.{run, run_lines}
 use Rattle.ln_world_channels.specs.Failing.{SomeMayFail}
 use Rattle.ln_world_channels.proofs.world.World.run.Given as goal
 
--- what is left leads to where all lead, is told behind, and fails by what all may fail by
+-- what is left leads to where all lead, is told after, and fails by what all may fail by
 abbrev pub invariant-loop-step : goal.invariant-loop-step
 invariant-loop-step g l =
     (run g.K.ChannelKeys (into_iter_items l.step-iterator) l.self

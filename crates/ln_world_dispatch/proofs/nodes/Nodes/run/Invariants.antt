@@ -4,7 +4,7 @@ use Rattle.ln_refusals.specs.declared.refusal.Refusal.{Refusal}
 use Rattle.ln_world_dispatch.specs.World.{run, run_lines, unhooked, SomeMayFail}
 use Rattle.ln_world_dispatch.proofs.nodes.Nodes.run.Given as goal
 
--- what is left leads to where all lead, is told behind, and fails by what all may fail by
+-- what is left leads to where all lead, is told after, and fails by what all may fail by
 abbrev pub invariant-loop-step : goal.invariant-loop-step
 invariant-loop-step g l =
     (run g.K.ChannelKeys (unhooked (into_iter_items l.step-iterator)) l.self
