@@ -13,7 +13,8 @@ use Rattle.ln_book_tables.specs.declared.entry.Out.{Out}
 use Rattle.ln_book_tables.specs.declared.entry.Out.TheVariants as out
 use Rattle.ln_book_tables.specs.Replay.{same, is_open, is_settled, has_nothing_offered}
 use Rattle.ln_book_tables.specs.Due.{is_resolved, is_forwarded, has_removal, is_due, due_htlcs}
-use Rattle.ln_book.specs.Commands.{Services, is_resolved_in, forwards_in, due, command_by, or_next, first_due}
+use Rattle.ln_keys.specs.Services.{Services}
+use Rattle.ln_book.specs.Commands.{is_resolved_in, forwards_in, due, command_by, or_next, first_due}
 
 not_forgotten : (c : List ℕ) (w : OutgoingLeg) → is_resolved w ≡ false → is_resolved_in c w ≡ false
 not_forgotten c outgoing.Absent e = refl

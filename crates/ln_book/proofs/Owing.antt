@@ -11,7 +11,6 @@ use lib.Pointwise.{bytes_decides}
 use Rattle.ln_log.specs.declared.mark.Mark.{Mark}
 use Rattle.ln_log.specs.declared.mark.Mark.TheVariants as mark
 use Rattle.ln_forward.specs.declared.failure.Failure.TheVariants as failure
-use Rattle.ln_forward.specs.Failure.{failure_bytes}
 use Rattle.ln_channel.specs.declared.command.Command.{Command}
 use Rattle.ln_channel.specs.declared.command.Command.TheVariants as command
 use Rattle.ln_book_tables.specs.declared.htlc.Key.{Key}
@@ -38,7 +37,8 @@ use Rattle.ln_book_tables.specs.Replay.{kept_at}
 use Rattle.ln_book_tables.specs.Replay.{put_back_all}
 use Rattle.ln_book_tables.specs.Replay.{is_later, refused, left_out, is_queued}
 use Rattle.ln_book_tables.specs.Due.{has_removal}
-use Rattle.ln_book.specs.Commands.{Services, is_resolved_in, forwards_in, due, removal_by}
+use Rattle.ln_keys.specs.Services.{Services}
+use Rattle.ln_book.specs.Commands.{own_failure, is_resolved_in, forwards_in, due, removal_by}
 use Rattle.ln_book.specs.Commands.{with_out, command_by, command_of, or_next, first_due, is_queued_in, queued_command}
 use Rattle.ln_book.specs.Commands.{first_of, first_at, first_command, with_taken, with_answered}
 use Rattle.ln_book.specs.Answers.{replied}
@@ -522,7 +522,7 @@ refused-then c k t r lt =
 
 fails-incoming : (s : Services) (c : List ℕ) (h : Htlc) (m : Mark) → forwards_in c m ≡ true
     → (has_removal m outgoing.Refused ≡ true) × (removal_by s (put_outgoing outgoing.Refused h) m
-    ≡ Some (command.Fail h.key.id (s.wrapped (failure_bytes failure.TemporaryChannelFailure))))
+    ≡ Some (command.Fail h.key.id (own_failure s h.offer failure.TemporaryChannelFailure)))
 fails-incoming s c h mark.None e = (cc, cc)
 fails-incoming s c h (mark.Forward d a x) e = (refl, refl)
 fails-incoming s c h (mark.Fail r) e = (cc, cc)
@@ -537,7 +537,7 @@ and-right false b e = cc
 refused-due : (s : Services) (c : List ℕ) (h : Htlc) (k : Key) → due c h ≡ Some (out.Adding k)
     → is_open h.incoming ≡ true
     → command_by s (put_outgoing outgoing.Refused h) (due k.channel (put_outgoing outgoing.Refused h))
-    ≡ Some (out.Removing k, command.Fail k.id (s.wrapped (failure_bytes failure.TemporaryChannelFailure)))
+    ≡ Some (out.Removing k, command.Fail k.id (own_failure s h.offer failure.TemporaryChannelFailure))
 refused-due s c h k e opened =
     let g = put_outgoing outgoing.Refused h in
     elim (due-of c h (out.Adding k) e) [
@@ -555,7 +555,7 @@ refused-due s c h k e opened =
           ∙ ap (with_out (out.Removing h.key)) fb.1
           ∙ ap (λ (z : Key). Some (
             out.Removing z,
-            command.Fail z.id (s.wrapped (failure_bytes failure.TemporaryChannelFailure)),
+            command.Fail z.id (own_failure s h.offer failure.TemporaryChannelFailure),
           )) (sym key)
           )
     ]
@@ -566,7 +566,7 @@ pub fails-incoming-then : (s : Services) (c : List ℕ) (b : History Table Entry
     → (g : Htlc) × (find (is_htlc k) (table_of (replied c (Err r) b)).htlcs ≡ Some g)
     × (command_by s g (due k.channel g) ≡ Some (
       out.Removing k,
-      command.Fail k.id (s.wrapped (failure_bytes failure.TemporaryChannelFailure)),
+      command.Fail k.id (own_failure s h.offer failure.TemporaryChannelFailure),
     ))
 fails-incoming-then s c b k h r first is-due opened is-out lt = (
   put_outgoing outgoing.Refused h,

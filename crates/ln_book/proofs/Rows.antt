@@ -35,7 +35,8 @@ use Rattle.ln_book.specs.Kept.{own_updates, has_own_removal}
 use Rattle.ln_book.specs.Rebuild.{ChannelSnapshot, no_event, legs_offered, legs_resolved, decided_in}
 use Rattle.ln_book.specs.Rebuild.{htlc_left, rebuilt}
 use Rattle.ln_book.specs.Rebuild.{rebuilt_htlcs}
-use Rattle.ln_book.specs.Commands.{Services, first_command}
+use Rattle.ln_keys.specs.Services.{Services}
+use Rattle.ln_book.specs.Commands.{first_command}
 use Rattle.ln_book.specs.Marks.{resumption}
 
 abbrev a : List ℕ
@@ -61,7 +62,8 @@ decided = record { channel = a; event = 3; offer = Some offer; mark = mark.Forwa
 abbrev service : Services
 service = record {
   opened = λ onion hash. Ok (record { payload = []; next = Some (2 ∷ []) });
-  wrapped = λ reason. reason;
+  wrapped = λ onion hash failure. failure;
+  wrapped_again = λ onion hash reason. reason;
 }
 
 abbrev htlc : Bool → OutgoingLeg → IncomingLeg → Htlc

@@ -4,12 +4,14 @@ use Rattle.std.specs.Prelude.{Result, Ok, Err, if◌then◌else◌, Box}
 use Rattle.std.specs.List.{find}
 use Rattle.sha2.specs.Sha256.{sha256}
 use Rattle.ln_bytes.specs.Endian.{big_bytes}
+use Rattle.ln_keys.specs.Services.{Services}
 use Rattle.ln_keys.specs.declared.onion.Opened.{Opened}
 use Rattle.ln_keys.specs.declared.onion.OpenFault.{OpenFault}
 use Rattle.ln_log.specs.declared.mark.Mark.{Mark}
 use Rattle.ln_log.specs.declared.mark.Mark.TheVariants as mark
 use Rattle.ln_hooks.specs.declared.event.How.{How}
 use Rattle.ln_hooks.specs.declared.event.How.TheVariants as how
+use Rattle.ln_forward.specs.declared.failure.Failure.{Failure}
 use Rattle.ln_forward.specs.declared.failure.Failure.TheVariants as failure
 use Rattle.ln_forward.specs.Failure.{failure_bytes}
 use Rattle.ln_channel.specs.declared.command.Command.{Command}
@@ -17,6 +19,7 @@ use Rattle.ln_channel.specs.declared.command.Command.TheVariants as command
 use Rattle.ln_book_tables.specs.declared.htlc.OutgoingLeg.{OutgoingLeg}
 use Rattle.ln_book_tables.specs.declared.htlc.OutgoingLeg.TheVariants as outgoing
 use Rattle.ln_book_tables.specs.declared.htlc.Htlc.{Htlc}
+use Rattle.ln_book_tables.specs.declared.htlc.Offer.{Offer}
 use Rattle.ln_book_tables.specs.declared.entry.Queued.{Queued}
 use Rattle.ln_book_tables.specs.declared.entry.Out.{Out}
 use Rattle.ln_book_tables.specs.declared.entry.Out.TheVariants as out
@@ -28,14 +31,9 @@ use Rattle.ln_history.specs.History.{History, with_entry}
 use Rattle.ln_book_tables.specs.Replay.{Table, same, pending_command_at, is_open, is_settled, has_nothing_offered}
 use Rattle.ln_book_tables.specs.Due.{has_removal}
 
--- a node's service that opens onions and wraps failures (BOLT 4)
-pub record Services : Type 0 where
-  pub opened : List ℕ → List ℕ → Result Opened OpenFault
-  pub wrapped : List ℕ → List ℕ
-
-abbrev pub services_of : {O : Type 0} → (O → List ℕ → List ℕ → Result Opened OpenFault) → (O → List ℕ → List ℕ) → O
-    → Services
-services_of opened wrapped o = record { opened = opened o; wrapped = wrapped o }
+-- a failure of the node's own, as it goes back to who offered the HTLC (BOLT 4, "Returning Errors")
+abbrev pub own_failure : Services → Offer → Failure → List ℕ
+own_failure s o f = s.wrapped o.onion o.hash (failure_bytes f)
 
 -- ---- what an HTLC is due
 
@@ -90,22 +88,23 @@ abbrev pub malformed_bytes : List ℕ → ℕ → List ℕ
 malformed_bytes sha code = big_bytes 2 code ++ sha
 
 -- what has become of the outgoing HTLC is passed back
-abbrev pub removal_resolved : Services → ℕ → How → Command
-removal_resolved s id (how.Fulfilled preimage) = command.Fulfil id preimage
-removal_resolved s id (how.Failed reason) = command.Fail id reason
-removal_resolved s id (how.Malformed sha code) = command.Fail id (s.wrapped (malformed_bytes sha code))
+abbrev pub removal_resolved : Services → Htlc → How → Command
+removal_resolved s h (how.Fulfilled preimage) = command.Fulfil h.key.id preimage
+removal_resolved s h (how.Failed reason) = command.Fail h.key.id (s.wrapped_again h.offer.onion h.offer.hash reason)
+removal_resolved s h (how.Malformed sha code) =
+    command.Fail h.key.id (s.wrapped h.offer.onion h.offer.hash (malformed_bytes sha code))
 
 -- one that its channel has refused fails by temporary_channel_failure, 0x1007
-abbrev pub removal_by_outgoing : Services → ℕ → OutgoingLeg → Option Command
-removal_by_outgoing s id outgoing.Absent = None
-removal_by_outgoing s id outgoing.Refused = Some (command.Fail id (s.wrapped
-    (failure_bytes failure.TemporaryChannelFailure)))
-removal_by_outgoing s id (outgoing.Offered k) = None
-removal_by_outgoing s id (outgoing.Resolved k h) = Some (removal_resolved s id h)
+abbrev pub removal_by_outgoing : Services → Htlc → OutgoingLeg → Option Command
+removal_by_outgoing s h outgoing.Absent = None
+removal_by_outgoing s h outgoing.Refused =
+    Some (command.Fail h.key.id (own_failure s h.offer failure.TemporaryChannelFailure))
+removal_by_outgoing s h (outgoing.Offered k) = None
+removal_by_outgoing s h (outgoing.Resolved k w) = Some (removal_resolved s h w)
 
 abbrev pub removal_by : Services → Htlc → Mark → Option Command
 removal_by s h mark.None = None
-removal_by s h (mark.Forward d amount expiry) = removal_by_outgoing s h.key.id h.outgoing
+removal_by s h (mark.Forward d amount expiry) = removal_by_outgoing s h h.outgoing
 removal_by s h (mark.Fail reason) = Some (command.Fail h.key.id reason)
 removal_by s h (mark.Malformed code) = Some (command.Malformed h.key.id (sha256 h.offer.onion) code)
 removal_by s h (mark.Fulfil preimage) = Some (command.Fulfil h.key.id preimage)

@@ -23,7 +23,6 @@ use Rattle.ln_forward.specs.declared.checks.Route.{Route}
 use Rattle.ln_forward.specs.declared.checks.Policy.{Policy}
 use Rattle.ln_forward.specs.declared.checks.Expected.{Expected}
 use Rattle.ln_forward.specs.Checks.{forward_by, missing, final_fault}
-use Rattle.ln_forward.specs.Failure.{failure_bytes}
 use Rattle.ln_forward.specs.Payload.{Hop, payload_at}
 use Rattle.ln_book_tables.specs.declared.htlc.Offer.{Offer}
 use Rattle.ln_book_tables.specs.declared.entry.OutgoingChannel.{OutgoingChannel}
@@ -31,7 +30,8 @@ use Rattle.ln_book_tables.specs.declared.entry.Invoice.{Invoice}
 use Rattle.ln_book_tables.specs.declared.entry.Decided.{Decided}
 use Rattle.ln_book_tables.specs.declared.htlc.Htlc.{Htlc}
 use Rattle.ln_book_tables.specs.Replay.{Table, same, is_usable, held_by}
-use Rattle.ln_book.specs.Commands.{Services}
+use Rattle.ln_keys.specs.Services.{Services}
+use Rattle.ln_book.specs.Commands.{own_failure}
 
 -- what a peer offers, where an event tells of that
 abbrev pub offer_of : ChannelEvent → Option Offer
@@ -60,16 +60,16 @@ failure_by code.FinalIncorrectHtlcAmount o height = failure.FinalIncorrectHtlcAm
 failure_by code.ExpiryTooFar o height = failure.ExpiryTooFar
 failure_by code.InvalidOnionPayload o height = failure.InvalidOnionPayload 0
 
-abbrev pub failed : Services → Failure → Mark
-failed s f = mark.Fail (s.wrapped (failure_bytes f))
+abbrev pub failed : Services → Offer → Failure → Mark
+failed s o f = mark.Fail (own_failure s o f)
 
 -- an unreadable onion is told by a code with the bits BADONION and PERM: 0xc004, 0xc005 and 0xc006
-abbrev pub unopened : Services → OpenFault → Mark
-unopened s open_fault.Version = mark.Malformed 49156
-unopened s open_fault.Hmac = mark.Malformed 49157
-unopened s open_fault.Key = mark.Malformed 49158
-unopened s open_fault.Payload = failed s (failure.InvalidOnionPayload 0)
-unopened s open_fault.Memory = failed s (failure.InvalidOnionPayload 0)
+abbrev pub unopened : Services → Offer → OpenFault → Mark
+unopened s o open_fault.Version = mark.Malformed 49156
+unopened s o open_fault.Hmac = mark.Malformed 49157
+unopened s o open_fault.Key = mark.Malformed 49158
+unopened s o open_fault.Payload = failed s o (failure.InvalidOnionPayload 0)
+unopened s o open_fault.Memory = failed s o (failure.InvalidOnionPayload 0)
 
 -- ---- forwarding
 
@@ -99,13 +99,13 @@ abbrev pub or_zero : Option ℕ → ℕ
 or_zero None = 0
 or_zero (Some n) = n
 
-abbrev pub forward_mark : Services → Hop → Option OutgoingChannel → Option Failure → Mark
-forward_mark s hop l (Some f) = failed s f
-forward_mark s hop None None = mark.None
-forward_mark s hop (Some l) None = mark.Forward l.channel (or_zero hop.amount) (or_zero hop.expiry)
+abbrev pub forward_mark : Services → Offer → Hop → Option OutgoingChannel → Option Failure → Mark
+forward_mark s o hop l (Some f) = failed s o f
+forward_mark s o hop None None = mark.None
+forward_mark s o hop (Some l) None = mark.Forward l.channel (or_zero hop.amount) (or_zero hop.expiry)
 
 abbrev pub forwarded : Services → Offer → Hop → Table → Option OutgoingChannel → Mark
-forwarded s o hop t l = forward_mark s hop l (forward_fault_at o hop t l hop.amount hop.expiry)
+forwarded s o hop t l = forward_mark s o hop l (forward_fault_at o hop t l hop.amount hop.expiry)
 
 -- ---- taking
 
@@ -117,14 +117,14 @@ expected_by (Some i) = Some i.expected
 abbrev pub final_payload : Hop → Payload
 final_payload hop = record { amount = hop.amount; expiry = hop.expiry; next = None; payment = hop.payment }
 
-abbrev pub final_mark : Services → Option Invoice → Option Failure → Mark
-final_mark s i (Some f) = failed s f
-final_mark s None None = mark.None
-final_mark s (Some i) None = mark.Fulfil i.preimage
+abbrev pub final_mark : Services → Offer → Option Invoice → Option Failure → Mark
+final_mark s o i (Some f) = failed s o f
+final_mark s o None None = mark.None
+final_mark s o (Some i) None = mark.Fulfil i.preimage
 
 abbrev pub taken : Services → Offer → Hop → ℕ → Option Invoice → Mark
 taken s o hop height i =
-    final_mark s i (final_fault (incoming_of o) (final_payload hop) (expected_by i) height)
+    final_mark s o i (final_fault (incoming_of o) (final_payload hop) (expected_by i) height)
 
 -- ---- the mark
 
@@ -134,17 +134,17 @@ read_hop s o t true hop = taken s o hop t.height (lookup (same o.hash) t.expecte
 read_hop s o t false hop = forwarded s o hop t (outgoing_by t hop.next)
 
 abbrev pub read : Services → Offer → Table → Bool → Result Hop Fault → Mark
-read s o t is_final (Err f) = failed s (failure.InvalidOnionPayload 0)
+read s o t is_final (Err f) = failed s o (failure.InvalidOnionPayload 0)
 read s o t is_final (Ok hop) = read_hop s o t is_final hop
 
 abbrev pub opened_mark : Services → Offer → Table → Result Opened OpenFault → Mark
-opened_mark s o t (Err f) = unopened s f
+opened_mark s o t (Err f) = unopened s o f
 opened_mark s o t (Ok p) = read s o t (is_none p.next) (payload_at p.payload)
 
 -- a hook's failure goes before all else; what is held waits by the number of its event
 abbrev pub mark_by : Services → Table → ℕ → Offer → Verdict → Mark
 mark_by s t n o verdict.Continue = opened_mark s o t (s.opened o.onion o.hash)
-mark_by s t n o (verdict.Fail c) = failed s (failure_by c o t.height)
+mark_by s t n o (verdict.Fail c) = failed s o (failure_by c o t.height)
 mark_by s t n o verdict.Hold = mark.Held n
 
 -- nothing is done about any other event

@@ -7,7 +7,8 @@ use Rattle.ln_book_tables.specs.declared.entry.Out.{Out}
 use Rattle.ln_book_tables.specs.declared.entry.Out.TheVariants as out
 use Rattle.ln_book_tables.specs.declared.entry.KeptState.{KeptState}
 use Rattle.ln_book_tables.specs.Replay.{Table, is_among}
-use Rattle.ln_book.specs.Commands.{Services, due, command_by, is_queued_in, queued_command}
+use Rattle.ln_keys.specs.Services.{Services}
+use Rattle.ln_book.specs.Commands.{due, command_by, is_queued_in, queued_command}
 
 abbrev pub IsIn : {A : Type 0} → A → List A → Type 0
 IsIn {A} a [] = ⊥

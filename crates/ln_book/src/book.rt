@@ -190,7 +190,7 @@ impl Book {
     ghost use Rattle.ln_history.specs.History.{with_entry};
     ghost use Rattle.ln_book_tables.specs.Replay.{table_of, pending_command_at, held_by};
     ghost use Rattle.ln_book_tables.specs.Held.{all_held};
-    ghost use Rattle.ln_book.specs.Commands.{services_of, first_command, with_taken, with_answered};
+    ghost use Rattle.ln_book.specs.Commands.{first_command, with_taken, with_answered};
     ghost use Rattle.std.specs.Prelude.{◌⊎◌, ◌↔◌, IsErrOf, None, Some};
     ghost use Rattle.ln_book.specs.Marks.{offer_of, mark_of, decision, resumption};
     ghost use Rattle.std.specs.Prelude.{true, ◌&&◌, is_some};
@@ -217,10 +217,10 @@ impl Book {
         told: &ChannelEvent,
         verdict: Verdict,
     ) -> Result<Mark, Refusal>
-        ensures answers_the_mark { IfOk result (λ m. m ≡ mark_of (services_of O.opened O.wrapped onion.now)
-            (table_of self.old) event (offer_of told.now) verdict) }
-        ensures enters_the_decision { OnOk result (self.new ≡ with_entry (entry.Decided (decision (services_of
-            O.opened O.wrapped onion.now) (table_of self.old) channel event (offer_of told.now) verdict)) self.old) }
+        ensures answers_the_mark { IfOk result (λ m. m ≡ mark_of (O.services onion.now) (table_of self.old) event
+            (offer_of told.now) verdict) }
+        ensures enters_the_decision { OnOk result (self.new ≡ with_entry (entry.Decided (decision (O.services onion.now)
+            (table_of self.old) channel event (offer_of told.now) verdict)) self.old) }
         ensures changes_nothing_if_refused { OnErr result (self.new ≡ self.old) }
         ensures fails_for_memory_alone { IfErr result (λ r. r ≡ Refusal.Memory) }
     {
@@ -283,15 +283,15 @@ impl Book {
         event: u64,
         verdict: Verdict,
     ) -> Result<Mark, Refusal>
-        ensures answers_the_mark { IfOk result (λ m. resumption (services_of O.opened O.wrapped onion.now)
-            (table_of self.old) channel event verdict ≡ Some m) }
+        ensures answers_the_mark { IfOk result (λ m. resumption (O.services onion.now) (table_of self.old) channel event
+            verdict ≡ Some m) }
         ensures enters_what_is_resumed { IfOk result (λ m. self.new ≡ with_entry (entry.Resumed (record {
           channel = channel;
           event = event;
           mark = m;
         })) self.old) }
         ensures refuses_what_is_not_held { IsErrOf result Refusal.NotReady
-            ↔ (resumption (services_of O.opened O.wrapped onion.now) (table_of self.old) channel event verdict ≡ None) }
+            ↔ (resumption (O.services onion.now) (table_of self.old) channel event verdict ≡ None) }
         ensures fails_by_these_alone { IfErr result (λ r. (r ≡ Refusal.NotReady) ⊎ (r ≡ Refusal.Memory)) }
         ensures changes_nothing_if_refused { OnErr result (self.new ≡ self.old) }
     {
@@ -400,10 +400,10 @@ impl Book {
         onion: &O,
         channel: ChannelId,
     ) -> Result<Option<Command>, Refusal>
-        ensures answers_the_first { IfOk result (λ c. c ≡ option_map (λ x. x.1) (first_command (services_of O.opened
-            O.wrapped onion.now) channel (table_of self.old))) }
-        ensures enters_what_is_taken { OnOk result (self.new ≡ with_taken channel (first_command (services_of O.opened
-            O.wrapped onion.now) channel (table_of self.old)) self.old) }
+        ensures answers_the_first { IfOk result (λ c. c ≡ option_map (λ x. x.1) (first_command (O.services onion.now)
+            channel (table_of self.old))) }
+        ensures enters_what_is_taken { OnOk result (self.new ≡ with_taken channel (first_command (O.services onion.now)
+            channel (table_of self.old)) self.old) }
         ensures changes_nothing_if_refused { OnErr result (self.new ≡ self.old) }
         ensures fails_for_memory_alone { IfErr result (λ r. r ≡ Refusal.Memory) }
     {

@@ -2,8 +2,7 @@
 
 ghost use Rattle.std.specs.Prelude.{◌≡◌, IfOk, IfErr, IfSome, Some, length, option_copied, option_map};
 ghost use Rattle.std.specs.List.{find};
-ghost use Rattle.ln_forward.specs.Failure.{failure_bytes};
-ghost use Rattle.ln_book.specs.Commands.{services_of, next_of, add_of, malformed_bytes, removal_resolved};
+ghost use Rattle.ln_book.specs.Commands.{own_failure, next_of, add_of, malformed_bytes, removal_resolved};
 ghost use Rattle.ln_book.specs.Commands.{removal_by_outgoing};
 ghost use Rattle.ln_book.specs.Commands.{removal_by, forget_by, command_of, command_by, due, first_due, is_queued_in};
 ghost use Rattle.ln_book.specs.Commands.{queued_command};
@@ -11,7 +10,7 @@ ghost use Rattle.ln_book.specs.Commands.{is_resolved_in, forwards_in, first_of, 
 ghost use Rattle.ln_book.specs.Commands.{unboxed};
 
 use byteorder::{BigEndian, ByteOrder};
-use ln_book_tables::{Htlc, Out, OutgoingLeg, PendingCommand, Queued, Tables};
+use ln_book_tables::{Htlc, Offer, Out, OutgoingLeg, PendingCommand, Queued, Tables};
 use ln_bytes::Bytes;
 use ln_channel::Command;
 use ln_forward::Failure;
@@ -21,17 +20,18 @@ use ln_log::{ChannelId, Mark};
 use ln_refusals::Refusal;
 use std::alloc::Global;
 
-/// A failure as it goes back (BOLT 4, "Returning Errors"). Error: 60 alone.
-pub(crate) fn wrapped<O: Onion>(
+/// A failure of the node's own, as it goes back to who offered the HTLC (BOLT 4, "Returning Errors"). Error: 60 alone.
+pub(crate) fn own_failure<O: Onion>(
     alloc: Global,
     onion: &O,
+    offer: &Offer,
     failure: &Failure,
 ) -> Result<Bytes, Refusal>
-    ensures wrapped { IfOk result (λ b. b ≡ O.wrapped onion.now (failure_bytes failure.now)) }
+    ensures wrapped { IfOk result (λ b. b ≡ own_failure (O.services onion.now) offer.now failure.now) }
     ensures fails_for_memory_alone { IfErr result (λ r. r ≡ Refusal.Memory) }
 {
     match failure.to_bytes(alloc) {
-        Ok(bytes) => onion.wrap_failure(alloc, bytes.as_slice()),
+        Ok(bytes) => onion.wrap_failure(alloc, &offer.onion, &offer.hash, bytes.as_slice()),
         Err(_) => Err(Refusal::Memory),
     }
 }
@@ -93,7 +93,8 @@ fn next_onion<O: Onion>(
     onion: &O,
     htlc: &Htlc,
 ) -> Result<Option<[u8; 1366]>, Refusal>
-    ensures next { IfOk result (λ n. n ≡ next_of (O.opened onion.now htlc.now.offer.onion htlc.now.offer.hash)) }
+    ensures next { IfOk result (λ n. n
+        ≡ next_of ((O.services onion.now).opened htlc.now.offer.onion htlc.now.offer.hash)) }
     ensures fails_for_memory_alone { IfErr result (λ r. r ≡ Refusal.Memory) }
 {
     match onion.open(alloc, &htlc.offer.onion, &htlc.offer.hash) {
@@ -113,8 +114,7 @@ fn boxed(alloc: Global, command: Command) -> Result<Option<Box<Command>>, Refusa
 
 // The command that offers it. Error: 60 alone.
 fn add_of<O: Onion>(alloc: Global, onion: &O, htlc: &Htlc) -> Result<Option<Box<Command>>, Refusal>
-    ensures command { IfOk result (λ c. option_map (λ b. b.value) c ≡ add_of (services_of O.opened O.wrapped onion.now)
-        htlc.now) }
+    ensures command { IfOk result (λ c. option_map (λ b. b.value) c ≡ add_of (O.services onion.now) htlc.now) }
     ensures fails_for_memory_alone { IfErr result (λ r. r ≡ Refusal.Memory) }
 {
     let Some(next) = next_onion(alloc, onion, htlc)? else {
@@ -152,26 +152,27 @@ fn malformed_bytes(alloc: Global, sha: &[u8; 32], code: u16) -> Result<Vec<u8>, 
 fn removal_resolved<O: Onion>(
     alloc: Global,
     onion: &O,
-    id: u64,
+    htlc: &Htlc,
     how: &How,
 ) -> Result<Option<Box<Command>>, Refusal>
     ensures command { IfOk result (λ c. option_map (λ b. b.value) c
-        ≡ Some (removal_resolved (services_of O.opened O.wrapped
-        onion.now) id how.now)) }
+        ≡ Some (removal_resolved (O.services onion.now) htlc.now how.now)) }
     ensures fails_for_memory_alone { IfErr result (λ r. r ≡ Refusal.Memory) }
 {
+    let id = htlc.key.id;
+    let offer = &htlc.offer;
     match how {
         How::Fulfilled(preimage) => {
             let preimage = *preimage;
             boxed(alloc, Command::Fulfil { id, preimage })
         }
         How::Failed(reason) => {
-            let reason = reason.clone()?;
+            let reason = onion.wrap_again(alloc, &offer.onion, &offer.hash, reason.as_slice())?;
             boxed(alloc, Command::Fail { id, reason })
         }
         How::Malformed(sha, code) => {
             let bytes = malformed_bytes(alloc, sha, *code)?;
-            let reason = onion.wrap_failure(alloc, bytes.as_slice())?;
+            let reason = onion.wrap_failure(alloc, &offer.onion, &offer.hash, bytes.as_slice())?;
             boxed(alloc, Command::Fail { id, reason })
         }
     }
@@ -181,21 +182,27 @@ fn removal_resolved<O: Onion>(
 fn removal_by_outgoing<O: Onion>(
     alloc: Global,
     onion: &O,
-    id: u64,
+    htlc: &Htlc,
     outgoing: &OutgoingLeg,
 ) -> Result<Option<Box<Command>>, Refusal>
     ensures command { IfOk result (λ c. option_map (λ b. b.value) c
-        ≡ removal_by_outgoing (services_of O.opened O.wrapped
-        onion.now) id outgoing.now) }
+        ≡ removal_by_outgoing (O.services onion.now) htlc.now outgoing.now) }
     ensures fails_for_memory_alone { IfErr result (λ r. r ≡ Refusal.Memory) }
 {
     match outgoing {
         OutgoingLeg::Absent | OutgoingLeg::Offered(_) => Ok(None),
         OutgoingLeg::Refused => {
-            let reason = wrapped(alloc, onion, &Failure::TemporaryChannelFailure)?;
-            boxed(alloc, Command::Fail { id, reason })
+            let failure = Failure::TemporaryChannelFailure;
+            let reason = own_failure(alloc, onion, &htlc.offer, &failure)?;
+            boxed(
+                alloc,
+                Command::Fail {
+                    id: htlc.key.id,
+                    reason,
+                },
+            )
         }
-        OutgoingLeg::Resolved(_, how) => removal_resolved(alloc, onion, id, how),
+        OutgoingLeg::Resolved(_, how) => removal_resolved(alloc, onion, htlc, how),
     }
 }
 
@@ -205,14 +212,14 @@ fn removal_of<O: Onion>(
     onion: &O,
     htlc: &Htlc,
 ) -> Result<Option<Box<Command>>, Refusal>
-    ensures command { IfOk result (λ c. option_map (λ b. b.value) c ≡ removal_by (services_of O.opened O.wrapped
-        onion.now) htlc.now htlc.now.mark) }
+    ensures command { IfOk result (λ c. option_map (λ b. b.value) c
+        ≡ removal_by (O.services onion.now) htlc.now htlc.now.mark) }
     ensures fails_for_memory_alone { IfErr result (λ r. r ≡ Refusal.Memory) }
 {
     let id = htlc.key.id;
     match &htlc.mark {
         Mark::None | Mark::Held(_) => Ok(None),
-        Mark::Forward { .. } => removal_by_outgoing(alloc, onion, id, &htlc.outgoing),
+        Mark::Forward { .. } => removal_by_outgoing(alloc, onion, htlc, &htlc.outgoing),
         Mark::Fail(reason) => {
             let reason = reason.clone()?;
             boxed(alloc, Command::Fail { id, reason })
@@ -247,8 +254,7 @@ fn command_of<O: Onion>(
     htlc: &Htlc,
     out: Out,
 ) -> Result<Option<Box<Command>>, Refusal>
-    ensures command { IfOk result (λ c. option_map (λ b. b.value) c ≡ command_of (services_of O.opened O.wrapped
-        onion.now) htlc.now out) }
+    ensures command { IfOk result (λ c. option_map (λ b. b.value) c ≡ command_of (O.services onion.now) htlc.now out) }
     ensures fails_for_memory_alone { IfErr result (λ r. r ≡ Refusal.Memory) }
 {
     match out {
@@ -266,7 +272,7 @@ fn command_by<O: Onion>(
     channel: &ChannelId,
     htlc: &Htlc,
 ) -> Result<Option<(Out, Box<Command>)>, Refusal>
-    ensures command { IfOk result (λ c. option_map unboxed c ≡ command_by (services_of O.opened O.wrapped onion.now)
+    ensures command { IfOk result (λ c. option_map unboxed c ≡ command_by (O.services onion.now)
         htlc.now (due channel.now htlc.now)) }
     ensures fails_for_memory_alone { IfErr result (λ r. r ≡ Refusal.Memory) }
 {
@@ -286,7 +292,7 @@ fn first_due<O: Onion>(
     channel: &ChannelId,
     tables: &Tables,
 ) -> Result<Option<(Out, Box<Command>)>, Refusal>
-    ensures command { IfOk result (λ c. option_map unboxed c ≡ first_due (services_of O.opened O.wrapped onion.now)
+    ensures command { IfOk result (λ c. option_map unboxed c ≡ first_due (O.services onion.now)
         channel.now tables.now.htlcs) }
     ensures fails_for_memory_alone { IfErr result (λ r. r ≡ Refusal.Memory) }
 {
@@ -330,7 +336,7 @@ fn first_of<O: Onion>(
     queued: Option<&Queued>,
     tables: &Tables,
 ) -> Result<Option<(Out, Box<Command>)>, Refusal>
-    ensures command { IfOk result (λ c. option_map unboxed c ≡ first_of (services_of O.opened O.wrapped onion.now)
+    ensures command { IfOk result (λ c. option_map unboxed c ≡ first_of (O.services onion.now)
         channel.now (option_copied queued.entry) tables.now.htlcs) }
     ensures fails_for_memory_alone { IfErr result (λ r. r ≡ Refusal.Memory) }
 {
@@ -347,7 +353,7 @@ pub(crate) fn first_command<O: Onion>(
     channel: &ChannelId,
     tables: &Tables,
 ) -> Result<Option<(Out, Box<Command>)>, Refusal>
-    ensures command { IfOk result (λ c. option_map unboxed c ≡ first_command (services_of O.opened O.wrapped onion.now)
+    ensures command { IfOk result (λ c. option_map unboxed c ≡ first_command (O.services onion.now)
         channel.now tables.now) }
     ensures fails_for_memory_alone { IfErr result (λ r. r ≡ Refusal.Memory) }
 {

@@ -3,13 +3,12 @@
 ghost use Rattle.std.specs.Prelude.{◌≡◌, Ok, IfOk, IfErr, option_map, option_copied};
 ghost use Rattle.ln_forward.specs.Checks.{answer_of, final_fault};
 ghost use Rattle.ln_forward.specs.Payload.{hop_of, id_bytes};
-ghost use Rattle.ln_book.specs.Commands.{services_of};
 ghost use Rattle.ln_book.specs.Marks.{offer_of, incoming_of, failure_by, failed, unopened, outgoing_by, route_by};
 ghost use Rattle.ln_book.specs.Marks.{policy_by, forwarded, final_payload, expected_by, taken};
 ghost use Rattle.ln_book.specs.Marks.{read_hop};
 ghost use Rattle.ln_book.specs.Marks.{opened_mark, mark_by, mark_of};
 
-use crate::commands::wrapped;
+use crate::commands::own_failure;
 use ln_book_tables::{Invoice, Offer, OutgoingChannel, Tables};
 use ln_bytes::{Fault, ShortId};
 use ln_forward::{
@@ -80,23 +79,33 @@ fn failure_by(code: FailureCode, offer: &Offer, height: u32) -> Failure
 }
 
 // It is failed so. Error: 60 alone.
-fn failed<O: Onion>(alloc: Global, onion: &O, failure: Failure) -> Result<Mark, Refusal>
-    ensures mark { IfOk result (λ m. m ≡ failed (services_of O.opened O.wrapped onion.now) failure) }
+fn failed<O: Onion>(
+    alloc: Global,
+    onion: &O,
+    offer: &Offer,
+    failure: Failure,
+) -> Result<Mark, Refusal>
+    ensures mark { IfOk result (λ m. m ≡ failed (O.services onion.now) offer.now failure) }
     ensures fails_for_memory_alone { IfErr result (λ r. r ≡ Refusal.Memory) }
 {
-    Ok(Mark::Fail(wrapped(alloc, onion, &failure)?))
+    Ok(Mark::Fail(own_failure(alloc, onion, offer, &failure)?))
 }
 
 // Its onion wasn't opened. Error: 60 alone.
-fn unopened<O: Onion>(alloc: Global, onion: &O, fault: OpenFault) -> Result<Mark, Refusal>
-    ensures mark { IfOk result (λ m. m ≡ unopened (services_of O.opened O.wrapped onion.now) fault) }
+fn unopened<O: Onion>(
+    alloc: Global,
+    onion: &O,
+    offer: &Offer,
+    fault: OpenFault,
+) -> Result<Mark, Refusal>
+    ensures mark { IfOk result (λ m. m ≡ unopened (O.services onion.now) offer.now fault) }
     ensures fails_for_memory_alone { IfErr result (λ r. r ≡ Refusal.Memory) }
 {
     match fault {
         OpenFault::Version => Ok(Mark::Malformed(0xc004)),
         OpenFault::Hmac => Ok(Mark::Malformed(0xc005)),
         OpenFault::Key => Ok(Mark::Malformed(0xc006)),
-        OpenFault::Payload => failed(alloc, onion, Failure::InvalidOnionPayload(0)),
+        OpenFault::Payload => failed(alloc, onion, offer, Failure::InvalidOnionPayload(0)),
         OpenFault::Memory => Err(Refusal::Memory),
     }
 }
@@ -147,7 +156,7 @@ fn forwarded<O: Onion>(
     payload: &Payload,
     outgoing: Option<&OutgoingChannel>,
 ) -> Result<Mark, Refusal>
-    ensures mark { IfOk result (λ m. m ≡ forwarded (services_of O.opened O.wrapped onion.now) offer.now
+    ensures mark { IfOk result (λ m. m ≡ forwarded (O.services onion.now) offer.now
         (hop_of payload.now) tables.now (option_copied outgoing.entry)) }
     ensures fails_for_memory_alone { IfErr result (λ r. r ≡ Refusal.Memory) }
 {
@@ -155,7 +164,7 @@ fn forwarded<O: Onion>(
     let policy = policy_by(outgoing);
     let incoming = incoming_of(offer);
     match check_forward(&incoming, payload, route.as_ref(), &policy, tables.height()) {
-        Err(failure) => failed(alloc, onion, failure),
+        Err(failure) => failed(alloc, onion, offer, failure),
         Ok(()) => match outgoing {
             None => Ok(Mark::None),
             Some(outgoing) => Ok(Mark::Forward {
@@ -199,12 +208,12 @@ fn taken<O: Onion>(
     payload: &Payload,
     invoice: Option<&Invoice>,
 ) -> Result<Mark, Refusal>
-    ensures mark { IfOk result (λ m. m ≡ taken (services_of O.opened O.wrapped onion.now) offer.now
+    ensures mark { IfOk result (λ m. m ≡ taken (O.services onion.now) offer.now
         (hop_of payload.now) height (option_copied invoice.entry)) }
     ensures fails_for_memory_alone { IfErr result (λ r. r ≡ Refusal.Memory) }
 {
     match check_taken(height, offer, payload, invoice) {
-        Err(failure) => failed(alloc, onion, failure),
+        Err(failure) => failed(alloc, onion, offer, failure),
         Ok(()) => match invoice {
             None => Ok(Mark::None),
             Some(invoice) => Ok(Mark::Fulfil(invoice.preimage)),
@@ -221,7 +230,7 @@ fn read<O: Onion>(
     is_final: bool,
     payload: &Payload,
 ) -> Result<Mark, Refusal>
-    ensures mark { IfOk result (λ m. m ≡ read_hop (services_of O.opened O.wrapped onion.now) offer.now tables.now
+    ensures mark { IfOk result (λ m. m ≡ read_hop (O.services onion.now) offer.now tables.now
         is_final (hop_of payload.now)) }
     ensures fails_for_memory_alone { IfErr result (λ r. r ≡ Refusal.Memory) }
 {
@@ -242,13 +251,13 @@ fn opened_mark<O: Onion>(
     offer: &Offer,
     opened: &Opened,
 ) -> Result<Mark, Refusal>
-    ensures mark { IfOk result (λ m. m ≡ opened_mark (services_of O.opened O.wrapped onion.now) offer.now tables.now
+    ensures mark { IfOk result (λ m. m ≡ opened_mark (O.services onion.now) offer.now tables.now
         (Ok opened.now)) }
     ensures fails_for_memory_alone { IfErr result (λ r. r ≡ Refusal.Memory) }
 {
     match read_payload(alloc, opened.payload.as_slice()) {
         Err(Fault::Memory) => Err(Refusal::Memory),
-        Err(_) => failed(alloc, onion, Failure::InvalidOnionPayload(0)),
+        Err(_) => failed(alloc, onion, offer, Failure::InvalidOnionPayload(0)),
         Ok(payload) => read(alloc, onion, tables, offer, opened.next.is_none(), &payload),
     }
 }
@@ -262,7 +271,7 @@ pub(crate) fn mark_by<O: Onion>(
     offer: &Offer,
     verdict: Verdict,
 ) -> Result<Mark, Refusal>
-    ensures mark { IfOk result (λ m. m ≡ mark_by (services_of O.opened O.wrapped onion.now) tables.now event offer.now
+    ensures mark { IfOk result (λ m. m ≡ mark_by (O.services onion.now) tables.now event offer.now
         verdict) }
     ensures fails_for_memory_alone { IfErr result (λ r. r ≡ Refusal.Memory) }
 {
@@ -270,11 +279,11 @@ pub(crate) fn mark_by<O: Onion>(
         Verdict::Continue => match onion.open(alloc, &offer.onion, &offer.hash) {
             Ok(opened) => opened_mark(alloc, onion, tables, offer, &opened),
             Err(OpenFault::Memory) => Err(Refusal::Memory),
-            Err(fault) => unopened(alloc, onion, fault),
+            Err(fault) => unopened(alloc, onion, offer, fault),
         },
         Verdict::Fail(code) => {
             let failure = failure_by(code, offer, tables.height());
-            failed(alloc, onion, failure)
+            failed(alloc, onion, offer, failure)
         }
         Verdict::Hold => Ok(Mark::Held(event)),
     }
@@ -289,7 +298,7 @@ pub(crate) fn mark_of<O: Onion>(
     offer: Option<&Offer>,
     verdict: Verdict,
 ) -> Result<Mark, Refusal>
-    ensures mark { IfOk result (λ m. m ≡ mark_of (services_of O.opened O.wrapped onion.now) tables.now event
+    ensures mark { IfOk result (λ m. m ≡ mark_of (O.services onion.now) tables.now event
         (option_copied offer.entry) verdict) }
     ensures fails_for_memory_alone { IfErr result (λ r. r ≡ Refusal.Memory) }
 {

@@ -17,9 +17,11 @@ struct KnownOnion {
 impl Onion for KnownOnion {
     ghost use Rattle.std.specs.Prelude.{Ok, Some};
 
-    ghost opened = { λ o onion hash. Ok (record { payload = o.payload.items; next = Some onion }) };
-
-    ghost wrapped = { λ _ reason. reason };
+    ghost services = { λ o. record {
+      opened = λ onion hash. Ok (record { payload = o.payload.items; next = Some onion });
+      wrapped = λ onion hash failure. failure;
+      wrapped_again = λ onion hash reason. reason;
+    } };
 
     fn open(
         &self,
@@ -35,7 +37,23 @@ impl Onion for KnownOnion {
         })
     }
 
-    fn wrap_failure(&self, alloc: Global, reason: &[u8]) -> Result<Bytes, Refusal> {
+    fn wrap_failure(
+        &self,
+        alloc: Global,
+        _onion: &[u8; 1366],
+        _hash: &[u8; 32],
+        failure: &[u8],
+    ) -> Result<Bytes, Refusal> {
+        Ok(Bytes::from_slice(alloc, failure)?)
+    }
+
+    fn wrap_again(
+        &self,
+        alloc: Global,
+        _onion: &[u8; 1366],
+        _hash: &[u8; 32],
+        reason: &[u8],
+    ) -> Result<Bytes, Refusal> {
         Ok(Bytes::from_slice(alloc, reason)?)
     }
 }

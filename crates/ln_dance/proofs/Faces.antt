@@ -65,7 +65,9 @@ pub learned : (a b : Signer) (x y : Dancer) (m : RevokeAndAck) → ArePartners a
 learned a b x y m p h below o e =
     let at : x.peer.point ≡ b.point_of y.numbers.commitment = h.point ∙ ap b.point_of (sym h.number) in
     learned_if (owes x) _ o
-    (ap (λ (n : RevokeAndAck). a.fits n.secret x.peer.point) e ∙ ap (a.fits (b.secret_of y.numbers.commitment)) at
+    (ap (λ (n : RevokeAndAck). a.fits x.numbers.revoked n.secret x.peer.point) e
+    ∙ ap (λ n. a.fits n (b.secret_of y.numbers.commitment) x.peer.point) (sym h.number)
+    ∙ ap (a.fits y.numbers.commitment (b.secret_of y.numbers.commitment)) at
     ∙ p.back.secrets y.numbers.commitment (omega (arith, below)))
 
 pub told : (b : Signer) (x y : Dancer) (m : RevokeAndAck) → IsRevokedFor b y x → m ≡ revoked_message b y

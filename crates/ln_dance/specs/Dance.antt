@@ -105,7 +105,7 @@ revoked_message keys d = record {
 -- the secret must fit the peer's point of the commitment that is revoked
 abbrev pub learn_fault : Signer → RevokeAndAck → Dancer → Option Refusal
 learn_fault keys m d =
-    if owes d then (if keys.fits m.secret d.peer.point then None else Some refusal.SecretWrong)
+    if owes d then (if keys.fits d.numbers.revoked m.secret d.peer.point then None else Some refusal.SecretWrong)
     else Some refusal.NothingToRevoke
 
 abbrev pub after_learn : RevokeAndAck → Dancer → Dancer

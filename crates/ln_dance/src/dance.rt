@@ -378,7 +378,7 @@ impl Dance {
         if !self.owes() {
             return Err(Refusal::NothingToRevoke);
         }
-        if !keys.secret_fits(&message.secret, &self.peer.point) {
+        if !keys.secret_fits(self.numbers.revoked, &message.secret, &self.peer.point) {
             return Err(Refusal::SecretWrong);
         }
         self.log.learn();

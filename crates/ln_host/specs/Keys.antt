@@ -10,7 +10,7 @@ host_signer k = record {
   signature = λ _ _ _. replicate 64 0;
   htlc_signatures = λ _ _ _. [];
   accepts = λ _ _ _ _ _. k.is_right;
-  fits = λ _ _. k.is_right;
+  fits = λ _ _ _. k.is_right;
   close_signature = λ _. replicate 64 0;
   accepts_close = λ _ _. k.is_right;
 }

@@ -54,7 +54,7 @@ impl ChannelKeys for HostKeys {
         self.is_right
     }
 
-    fn secret_fits(&self, _secret: &[u8; 32], _point: &[u8; 33]) -> bool {
+    fn secret_fits(&self, _number: u64, _secret: &[u8; 32], _point: &[u8; 33]) -> bool {
         self.is_right
     }
 

@@ -113,7 +113,7 @@ secret_by owing right =
 
 secret_so : (k : Signer) (y : Bool) (z : List ℕ) (m : RevokeAndAck) (d : Dancer) (owing : Bool)
     → IsRight k (told k y z) (if_so owing (secret_asked d)) (message.RevokeAndAck m)
-    → secret_by owing y ≡ secret_by owing (k.fits m.secret d.peer.point)
+    → secret_by owing y ≡ secret_by owing (k.fits d.numbers.revoked m.secret d.peer.point)
 secret_so k y z m d true a = ap (λ b. secret_by true b) a
 secret_so k y z m d false a = refl
 
@@ -175,7 +175,8 @@ row_filled k y z (message.CommitmentSigned m) e a =
     (signature_so k y z m e (is_ready e) last a) (accepting_filled k y z before e)
 row_filled k y z (message.RevokeAndAck m) e a =
     let before = e.dance.log.acknowledged.peer in
-    unless_filled k (secret_by (owes e.dance) y) (secret_by (owes e.dance) (k.fits m.secret e.dance.peer.point))
+    unless_filled k (secret_by (owes e.dance) y)
+    (secret_by (owes e.dance) (k.fits e.dance.numbers.revoked m.secret e.dance.peer.point))
     (learning before (revokes m e)) (learning before (revokes m e))
     (secret_so k y z m e.dance (owes e.dance) a) (learning_filled k before (revokes m e))
 row_filled k y z (message.ClosingSigned m) e a =

@@ -35,7 +35,7 @@ IsRightFor k h (question.First channel view) m =
     h.is_right ≡ k.accepts 0 (k.point_of 0) view (signature_in m) (htlc_signatures_in m)
 IsRightFor k h (question.Signatures role number view) m =
     h.is_right ≡ k.accepts number (k.point_of number) view (signature_in m) (htlc_signatures_in m)
-IsRightFor k h (question.Secret number point) m = h.is_right ≡ k.fits (secret_in m) point
+IsRightFor k h (question.Secret number point) m = h.is_right ≡ k.fits number (secret_in m) point
 IsRightFor k h (question.Close t) m = h.is_right ≡ k.accepts_close t.fee_satoshis (signature_in m)
 IsRightFor k h (question.OwnSecret number) m = h.secret ≡ k.secret_of number
 
@@ -51,7 +51,7 @@ judgement_of k (Some (question.First channel view)) m =
     k.accepts 0 (k.point_of 0) view (signature_in m) (htlc_signatures_in m)
 judgement_of k (Some (question.Signatures role number view)) m =
     k.accepts number (k.point_of number) view (signature_in m) (htlc_signatures_in m)
-judgement_of k (Some (question.Secret number point)) m = k.fits (secret_in m) point
+judgement_of k (Some (question.Secret number point)) m = k.fits number (secret_in m) point
 judgement_of k (Some (question.Close t)) m = k.accepts_close t.fee_satoshis (signature_in m)
 judgement_of k q m = false
 

@@ -169,9 +169,11 @@ impl HostOnions {
 impl Onion for HostOnions {
     ghost use Rattle.ln_host_onions.specs.Told.{opened_by, marked};
 
-    ghost opened = { λ o onion hash. opened_by o.found onion hash };
-
-    ghost wrapped = { λ o reason. marked o.own_mark reason };
+    ghost services = { λ o. record {
+      opened = λ onion hash. opened_by o.found onion hash;
+      wrapped = λ onion hash failure. marked o.own_mark failure;
+      wrapped_again = λ onion hash reason. reason;
+    } };
 
     fn open(
         &self,
@@ -183,9 +185,26 @@ impl Onion for HostOnions {
         open(self.found(&name))
     }
 
-    fn wrap_failure(&self, alloc: Global, reason: &[u8]) -> Result<Bytes, Refusal> {
+    fn wrap_failure(
+        &self,
+        alloc: Global,
+        _onion: &[u8; 1366],
+        _hash: &[u8; 32],
+        failure: &[u8],
+    ) -> Result<Bytes, Refusal> {
         let mut bytes = Vec::from_slice(alloc, &self.own_mark)?;
-        bytes.extend_from_slice(reason)?;
+        bytes.extend_from_slice(failure)?;
         Ok(Bytes::new(bytes))
+    }
+
+    // (the host wraps it as it leaves)
+    fn wrap_again(
+        &self,
+        alloc: Global,
+        _onion: &[u8; 1366],
+        _hash: &[u8; 32],
+        reason: &[u8],
+    ) -> Result<Bytes, Refusal> {
+        Ok(Bytes::from_slice(alloc, reason)?)
     }
 }

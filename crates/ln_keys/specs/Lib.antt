@@ -4,4 +4,5 @@ pub mod Signer
 pub mod Partners
 pub mod Toy
 pub mod Onion
+pub mod Services
 pub mod ToyOnion

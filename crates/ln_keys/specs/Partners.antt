@@ -12,8 +12,8 @@ pub record IsVerifiedBy (one other : Signer) : Type 0 where
       → other.accepts n point v (one.signature n point v) (one.htlc_signatures n point v) ≡ true
   pub htlcs : (n : ℕ) (point : List ℕ) (v : View) → length (one.htlc_signatures n point v) ≡ length v.htlcs
   pub closings : (fee : ℕ) → fee < 2 ^ 64 → other.accepts_close fee (one.close_signature fee) ≡ true
-  pub secrets : (n : ℕ) → n ≤ 2 ^ 48 → other.fits (one.secret_of n) (one.point_of n) ≡ true
-  pub own_secrets : (n : ℕ) → n ≤ 2 ^ 48 → one.fits (one.secret_of n) (one.point_of n) ≡ true
+  pub secrets : (n : ℕ) → n ≤ 2 ^ 48 → other.fits n (one.secret_of n) (one.point_of n) ≡ true
+  pub own_secrets : (n : ℕ) → n ≤ 2 ^ 48 → one.fits n (one.secret_of n) (one.point_of n) ≡ true
   pub sized_points : (n : ℕ) → n ≤ 2 ^ 48 → length (one.point_of n) ≡ 33
   pub sized_secrets : (n : ℕ) → n ≤ 2 ^ 48 → length (one.secret_of n) ≡ 32
 

@@ -9,6 +9,6 @@ pub record Signer : Type 0 where
   pub signature : ℕ → List ℕ → View → List ℕ  -- over the peer's commitment of a number, at its point, worth this view
   pub htlc_signatures : ℕ → List ℕ → View → List (List ℕ)  -- over the HTLCs of that commitment
   pub accepts : ℕ → List ℕ → View → List ℕ → List (List ℕ) → Bool  -- whether the peer's signatures are right
-  pub fits : List ℕ → List ℕ → Bool  -- whether a secret belongs to a point
+  pub fits : ℕ → List ℕ → List ℕ → Bool  -- whether a secret belongs to the point of the peer's commitment of a number
   pub close_signature : ℕ → List ℕ  -- over the closing transaction that pays this fee
   pub accepts_close : ℕ → List ℕ → Bool  -- whether the peer's signature over it is right

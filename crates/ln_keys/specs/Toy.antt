@@ -83,7 +83,7 @@ toy_signer k = record {
   signature = λ n point v. toy_signature k.tag n point v;
   htlc_signatures = λ n point v. toy_htlc_signatures k.tag n point v;
   accepts = λ n point v sig htlcs. toy_accepts k.peer_tag n point v sig htlcs;
-  fits = λ secret point. toy_fits secret point;
+  fits = λ _ secret point. toy_fits secret point;
   close_signature = λ fee. toy_close_signature k.tag fee;
   accepts_close = λ fee sig. toy_accepts_close k.peer_tag fee sig;
 }

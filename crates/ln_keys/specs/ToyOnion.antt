@@ -7,6 +7,7 @@ use Rattle.sha2.specs.Sha256.{sha256}
 use Rattle.ln_bytes.specs.Bigsize.{bigsize, bigsize_at}
 use Rattle.ln_bytes.specs.Same.{are_same}
 use Rattle.ln_bytes.specs.declared.fault.Fault.{Fault}
+use Rattle.ln_keys.specs.Services.{Services}
 use Rattle.ln_keys.specs.declared.onion.Opened.{Opened}
 use Rattle.ln_keys.specs.declared.onion.OpenFault.{OpenFault}
 use Rattle.ln_keys.specs.declared.onion.OpenFault.TheVariants.{Version, Key, Hmac, Payload}
@@ -77,6 +78,14 @@ unless None hop = hop
 abbrev pub toy_opened : List ℕ → List ℕ → Result Opened OpenFault
 toy_opened onion hash =
     unless (packet_fault onion hash) (hop_behind (bigsize_at (onion_payloads onion)) (onion_payloads onion) hash)
+
+-- failures are passed on as they are
+abbrev pub toy_services : Services
+toy_services = record {
+  opened = toy_opened;
+  wrapped = λ onion hash failure. failure;
+  wrapped_again = λ onion hash reason. reason;
+}
 
 -- ---- what was made is opened
 

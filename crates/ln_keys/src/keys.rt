@@ -62,10 +62,11 @@ pub trait ChannelKeys {
     ) -> bool
         ensures { result ≡ (signer self.now).accepts number own_point.now view.now sig.now htlcs.now };
 
-    /// Whether the secret is the one of the point (BOLT 2, "Completing the Transition to the Updated
-    /// State: revoke_and_ack"). Takes no memory.
-    fn secret_fits(&self, secret: &[u8; 32], point: &[u8; 33]) -> bool
-        ensures { result ≡ (signer self.now).fits secret.now point.now };
+    /// Whether the secret is the one of the point that the peer told for its commitment of this number (BOLT 2,
+    /// "Completing the Transition to the Updated State: revoke_and_ack"). By the number keys can test the order of
+    /// the peer's secrets, too (BOLT 3, "Efficient Per-commitment Secret Storage"). Takes no memory.
+    fn secret_fits(&self, number: u64, secret: &[u8; 32], point: &[u8; 33]) -> bool
+        ensures { result ≡ (signer self.now).fits number secret.now point.now };
 
     /// Signs the closing transaction that pays this fee, in satoshi (BOLT 2, "Closing Negotiation:
     /// closing_signed"). Takes no memory.

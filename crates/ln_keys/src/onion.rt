@@ -1,6 +1,6 @@
 //! The onion that travels with an HTLC.
 
-ghost use Rattle.std.specs.Prelude.{◌≡◌, ℕ, List, Result, Ok, Err, ◌⊎◌, length, IfOk, IfErr, IfSome};
+ghost use Rattle.std.specs.Prelude.{◌≡◌, Ok, Err, ◌⊎◌, length, IfOk, IfErr, IfSome};
 
 use ln_bytes::Bytes;
 use ln_refusals::Refusal;
@@ -45,29 +45,47 @@ impl From<AllocError> for OpenFault {
 ///
 /// Every answer is a function of the value and of the arguments, but for want of memory.
 pub trait Onion {
-    ghost use Rattle.ln_keys.specs.declared.onion.Opened.{Opened};
-    ghost use Rattle.ln_keys.specs.declared.onion.OpenFault.{OpenFault};
+    ghost use Rattle.ln_keys.specs.Services.{Services};
 
-    /// What opening an onion under a payment hash gives.
-    ghost opened: { Self → List ℕ → List ℕ → Result Opened OpenFault };
-
-    /// The failure that a reason is wrapped into.
-    ghost wrapped: { Self → List ℕ → List ℕ };
+    /// What it answers, as functions of the arguments.
+    ghost services: { Self → Services };
 
     /// Opens the onion of an HTLC with this payment hash (BOLT 4, "Onion Decryption").
     ///
     /// Takes memory for the payload and for the next onion. Errors: `Version`, `Key`, `Hmac` and
     /// `Payload` of the onion, and `Memory` where there is no memory.
     fn open(&self, alloc: Global, onion: &[u8; 1366], hash: &[u8; 32]) -> Result<Opened, OpenFault>
-        ensures found { IfOk result (λ o. opened self.now onion.now hash.now ≡ Ok o) }
-        ensures fault { IfErr result (λ e. (e ≡ OpenFault.Memory) ⊎ (opened self.now onion.now hash.now ≡ Err e)) }
+        ensures found { IfOk result (λ o. (services self.now).opened onion.now hash.now ≡ Ok o) }
+        ensures fault { IfErr result (λ e. (e ≡ OpenFault.Memory)
+            ⊎ ((services self.now).opened onion.now hash.now ≡ Err e)) }
         ensures next_has_1366_bytes { IfOk result (λ o. IfSome o.next (λ n. length n ≡ 1366)) };
 
-    /// Wraps a failure that goes back on the way that the onion came (BOLT 4, "Returning Errors").
-    /// Takes memory for it.
+    /// Wraps a failure of the node's own for the payer of the HTLC with this onion and payment hash: it is padded,
+    /// authenticated and obfuscated (BOLT 4, "Returning Errors"). `failure` is its code and its data (BOLT 4,
+    /// "Failure Messages"). Takes memory for it.
     ///
     /// Error: 60 (`Memory`) alone, where there is no memory.
-    fn wrap_failure(&self, alloc: Global, reason: &[u8]) -> Result<Bytes, Refusal>
-        ensures wrapped { IfOk result (λ b. b ≡ wrapped self.now reason.now) }
+    fn wrap_failure(
+        &self,
+        alloc: Global,
+        onion: &[u8; 1366],
+        hash: &[u8; 32],
+        failure: &[u8],
+    ) -> Result<Bytes, Refusal>
+        ensures wrapped { IfOk result (λ b. b ≡ (services self.now).wrapped onion.now hash.now failure.now) }
+        ensures fails_for_memory_alone { IfErr result (λ e. e ≡ Refusal.Memory) };
+
+    /// Wraps a failure that came back from the next hop, on its way to the payer of the HTLC with this onion and
+    /// payment hash: it is obfuscated again (BOLT 4, "Returning Errors"). `reason` is as it came. Takes memory for it.
+    ///
+    /// Error: 60 (`Memory`) alone, where there is no memory.
+    fn wrap_again(
+        &self,
+        alloc: Global,
+        onion: &[u8; 1366],
+        hash: &[u8; 32],
+        reason: &[u8],
+    ) -> Result<Bytes, Refusal>
+        ensures wrapped { IfOk result (λ b. b ≡ (services self.now).wrapped_again onion.now hash.now reason.now) }
         ensures fails_for_memory_alone { IfErr result (λ e. e ≡ Refusal.Memory) };
 }

@@ -49,5 +49,5 @@ pub fn partner_secret_fits<K: ChannelKeys>(teller: &K, taker: &K, number: u64) -
 {
     let secret = teller.secret(number);
     let point = teller.point(number);
-    taker.secret_fits(&secret, &point) && teller.secret_fits(&secret, &point)
+    taker.secret_fits(number, &secret, &point) && teller.secret_fits(number, &secret, &point)
 }

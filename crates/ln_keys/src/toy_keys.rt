@@ -195,7 +195,7 @@ impl ChannelKeys for ToyKeys {
         right == *sig && all_are(view.htlcs.len(), &right, htlcs)
     }
 
-    fn secret_fits(&self, secret: &[u8; 32], point: &[u8; 33]) -> bool {
+    fn secret_fits(&self, _number: u64, secret: &[u8; 32], point: &[u8; 33]) -> bool {
         pointed(secret) == *point
     }
 

@@ -6,7 +6,7 @@ ghost use Rattle.ln_bytes.specs.Bigsize.{bigsize_at};
 ghost use Rattle.ln_bytes.specs.Same.{are_same};
 ghost use Rattle.ln_keys.specs.Onion.{onion_key, onion_payloads, onion_hmac};
 ghost use Rattle.ln_keys.specs.ToyOnion.{toy_key, toy_hmac, filled, with_length, toy_made, passed_on, next_packet};
-ghost use Rattle.ln_keys.specs.ToyOnion.{hop_of, hop_behind, packet_fault, toy_opened};
+ghost use Rattle.ln_keys.specs.ToyOnion.{hop_of, hop_behind, packet_fault, toy_opened, toy_services};
 
 use crate::onion::{Onion, OpenFault, Opened};
 use ln_bytes::{Bytes, read_bigsize, write_bigsize};
@@ -175,9 +175,7 @@ fn first_hop(alloc: Global, bytes: &[u8], hash: &[u8; 32]) -> Result<Opened, Ope
 }
 
 impl Onion for ToyOnion {
-    ghost opened = { λ _ onion hash. toy_opened onion hash };
-
-    ghost wrapped = { λ _ reason. reason };
+    ghost services = { λ _. toy_services };
 
     fn open(
         &self,
@@ -191,7 +189,23 @@ impl Onion for ToyOnion {
         first_hop(alloc, &onion[34..1334], hash)
     }
 
-    fn wrap_failure(&self, alloc: Global, reason: &[u8]) -> Result<Bytes, Refusal> {
+    fn wrap_failure(
+        &self,
+        alloc: Global,
+        _onion: &[u8; 1366],
+        _hash: &[u8; 32],
+        failure: &[u8],
+    ) -> Result<Bytes, Refusal> {
+        Ok(Bytes::from_slice(alloc, failure)?)
+    }
+
+    fn wrap_again(
+        &self,
+        alloc: Global,
+        _onion: &[u8; 1366],
+        _hash: &[u8; 32],
+        reason: &[u8],
+    ) -> Result<Bytes, Refusal> {
         Ok(Bytes::from_slice(alloc, reason)?)
     }
 }

@@ -242,8 +242,9 @@ signature_other k m e =
 
 pub revocation_other : (k : Signer) (m : RevokeAndAck) (d : Dancer) → OtherFault (learn_fault k m d)
 revocation_other k m d =
-    if_not (owes d) refusal.NothingToRevoke (cond (k.fits m.secret d.peer.point) None (Some refusal.SecretWrong)) refl
-    (one_not (k.fits m.secret d.peer.point) refusal.SecretWrong refl)
+    if_not (owes d) refusal.NothingToRevoke
+    (cond (k.fits d.numbers.revoked m.secret d.peer.point) None (Some refusal.SecretWrong)) refl
+    (one_not (k.fits d.numbers.revoked m.secret d.peer.point) refusal.SecretWrong refl)
 
 pub resume_other : (k : Signer) (m : ChannelReestablish) (d : Dancer) → OtherFault (resume_fault k m d)
 resume_other k m d =

@@ -38,7 +38,7 @@ use Rattle.ln_book_tables.specs.Replay.{Table, same, replay, is_told, is_undecid
 use Rattle.ln_book_tables.specs.Replay.{joined}
 use Rattle.ln_book_tables.specs.Replay.{with_offer, with_decided, changed_first, left_out, decide}
 use Rattle.ln_book.specs.Answers.{command_subject, answer_to}
-use Rattle.ln_book.specs.Commands.{Services}
+use Rattle.ln_keys.specs.Services.{Services}
 use Rattle.ln_book.specs.Kept.{next_own_id}
 use Rattle.ln_book.specs.Marks.{offer_of, decision, mark_of}
 use Rattle.ln_book.specs.Rebuild.{no_event}

@@ -27,7 +27,8 @@ use Rattle.ln_book_tables.specs.Replay.{is_over}
 use Rattle.ln_book_tables.specs.Replay.{put_outgoing, put_incoming, put_mark, changed_first, is_held_in, is_resumed}
 use Rattle.ln_book_tables.specs.Replay.{is_undecided, with_outgoing, left_out, is_unsure, is_later}
 use Rattle.ln_book.specs.Answers.{command_subject, answer_to}
-use Rattle.ln_book.specs.Commands.{Services, due, command_of, add_of, next_of}
+use Rattle.ln_keys.specs.Services.{Services}
+use Rattle.ln_book.specs.Commands.{due, command_of, add_of, next_of}
 use Rattle.ln_book.specs.Commands as book
 use Rattle.ln_book.specs.Kept.{next_own_id}
 use Rattle.ln_book.specs.Rebuild.{no_event}

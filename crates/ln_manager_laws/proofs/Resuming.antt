@@ -23,7 +23,7 @@ use Rattle.ln_book_tables.specs.declared.entry.Entry.TheVariants as entry
 use Rattle.ln_book_tables.specs.Replay.{Table, same, replay, with_mark, with_resumed, resumed_of, resumed_by, taken_by}
 use Rattle.ln_book_tables.specs.Replay.{is_resumed, is_held_in}
 use Rattle.ln_book.specs.Answers.{command_subject, answer_to}
-use Rattle.ln_book.specs.Commands.{Services}
+use Rattle.ln_keys.specs.Services.{Services}
 use Rattle.ln_book.specs.Kept.{next_own_id}
 use Rattle.ln_book.specs.Marks.{resumption, resumed_mark}
 use Rattle.ln_book.specs.Rebuild.{no_event}

@@ -30,7 +30,8 @@ use Rattle.ln_book_tables.specs.declared.entry.Entry.{Entry}
 use Rattle.ln_book_tables.specs.declared.entry.Entry.TheVariants as entry
 use Rattle.ln_book_tables.specs.Replay.{Table, replay, pending_command_at}
 use Rattle.ln_book.specs.Answers.{command_subject, answer_to}
-use Rattle.ln_book.specs.Commands.{Services, due, command_of}
+use Rattle.ln_keys.specs.Services.{Services}
+use Rattle.ln_book.specs.Commands.{due, command_of}
 use Rattle.ln_book.specs.Kept.{kept_state_of, next_own_id, has_own_removal, has_decided}
 use Rattle.ln_book.specs.Marks.{offer_of, decision, resumption}
 use Rattle.ln_book.specs.Settled.{settled_entry}

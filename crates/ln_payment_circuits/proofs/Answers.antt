@@ -14,7 +14,8 @@ use Rattle.ln_book_tables.specs.declared.htlc.Htlc.{Htlc}
 use Rattle.ln_book_tables.specs.Replay.{same_key, is_htlc, changed_first, left_out, joined, decide, with_outgoing}
 use Rattle.ln_book_tables.specs.Replay.{with_incoming}
 use Rattle.ln_book_tables.specs.Replay.{is_settled, has_nothing_offered, is_open}
-use Rattle.ln_book.specs.Commands.{Services, forwards_in, removal_by, is_resolved_in, forget_by}
+use Rattle.ln_keys.specs.Services.{Services}
+use Rattle.ln_book.specs.Commands.{forwards_in, removal_by, is_resolved_in, forget_by}
 use Rattle.ln_payment.specs.Parts.{Kind, Mark, Decision, Undecided, Decided, Past, Out, Absent, Refused}
 use Rattle.ln_payment.specs.Parts.{RemovalRefused, Note, Payment, Among, IsAt, HasEnded}
 use Rattle.ln_payment.specs.Moves.{Move, Offers, Removes, IsSettled, begun_note}

@@ -16,7 +16,8 @@ use Rattle.ln_book_tables.specs.declared.entry.Out.{Out}
 use Rattle.ln_book_tables.specs.declared.entry.Out.TheVariants as out
 use Rattle.ln_book_tables.specs.Replay.{same, is_settled, has_nothing_offered, is_open}
 use Rattle.ln_book_tables.specs.Due.{has_removal}
-use Rattle.ln_book.specs.Commands.{Services, due, command_of, command_by, first_due, or_next, with_out, is_resolved_in}
+use Rattle.ln_keys.specs.Services.{Services}
+use Rattle.ln_book.specs.Commands.{due, command_of, command_by, first_due, or_next, with_out, is_resolved_in}
 use Rattle.ln_book.specs.Commands.{forwards_in}
 use Rattle.ln_book.specs.Commands.{removal_by, removal_by_outgoing, removal_resolved}
 use Rattle.ln_book.specs.Commands.{forget_by}
@@ -211,7 +212,7 @@ module _ (id_of : ℕ → List ℕ) (s : Services) (x : Htlc) (n : Note) (is : I
       cases incoming.Settled f g = absurd (cc)
 
   outgoing_so : (v : BookOutgoing) (w : OutgoingLeg) → IsOutgoingOf id_of v w → (c : Command)
-      → removal_by_outgoing s x.key.id v ≡ Some c
+      → removal_by_outgoing s x v ≡ Some c
       → (k : Kind) × IsRemoval x.key.id k c × move.IsAnswer k Forward w
   outgoing_so outgoing.Absent w i c e = absurd (cc)
   outgoing_so outgoing.Refused Absent i c e = absurd i
@@ -224,7 +225,7 @@ module _ (id_of : ℕ → List ℕ) (s : Services) (x : Htlc) (n : Note) (is : I
   outgoing_so (outgoing.Resolved k h) (Offered d j) i c e = absurd i
   outgoing_so (outgoing.Resolved k h) (Resolved d j m) i c e = (
     kind_of h,
-    given x.key.id (kind_of h) (removal_resolved s x.key.id h) c e (over_removes s x.key.id h),
+    given x.key.id (kind_of h) (removal_resolved s x h) c e (over_removes s x h),
     sym i.1,
   )
 

@@ -44,7 +44,8 @@ use Rattle.ln_book_tables.specs.Replay.{is_offered, is_finished, is_settled, has
 use Rattle.ln_book_tables.specs.Replay.{is_undecided, is_decided}
 use Rattle.ln_book.specs.Kept.{has_own_removal}
 use Rattle.ln_book.specs.Rebuild.{rebuilt_htlcs}
-use Rattle.ln_book.specs.Commands.{Services, command_of, removal_by, forget_by, forwards_in, is_resolved_in}
+use Rattle.ln_keys.specs.Services.{Services}
+use Rattle.ln_book.specs.Commands.{command_of, removal_by, forget_by, forwards_in, is_resolved_in}
 use Rattle.ln_payment.specs.Parts.{IsEnd, IsHeld, Undecided}
 use Rattle.ln_payment.specs.Rebuild.{everywhere, is_uncovered}
 use Rattle.ln_payment.specs.Moves.{is_of}

@@ -17,7 +17,8 @@ use Rattle.ln_channel.specs.Opening.{unless}
 use Rattle.ln_channel.specs.Commands.{command_row, note_row, propose_row, propose_fault, proposes}
 use Rattle.ln_channel.specs.End.{End, Turn, sending}
 use Rattle.ln_book_tables.specs.declared.htlc.Htlc.{Htlc}
-use Rattle.ln_book.specs.Commands.{Services, add_of, removal_by_outgoing, removal_resolved}
+use Rattle.ln_keys.specs.Services.{Services}
+use Rattle.ln_book.specs.Commands.{add_of, removal_by_outgoing, removal_resolved}
 use Rattle.ln_book.specs.Commands as book
 use Rattle.ln_payment_circuits.specs.Happens.{obeyed}
 use Rattle.ln_payment_circuits.proofs.Removing.{IsRemoving, removes_so}

@@ -26,7 +26,8 @@ use Rattle.ln_channel.specs.Step.{is_of_records}
 use Rattle.ln_book_tables.specs.declared.htlc.Htlc.{Htlc}
 use Rattle.ln_book_tables.specs.declared.htlc.OutgoingLeg.{OutgoingLeg}
 use Rattle.ln_book_tables.specs.declared.htlc.OutgoingLeg.TheVariants as outgoing
-use Rattle.ln_book.specs.Commands.{Services, removal_by, removal_by_outgoing, removal_resolved}
+use Rattle.ln_keys.specs.Services.{Services}
+use Rattle.ln_book.specs.Commands.{removal_by, removal_by_outgoing, removal_resolved}
 use Rattle.ln_payment.specs.Parts.{Kind, Fulfils, Fails, Proposed, By}
 use Rattle.ln_payment_circuits.specs.Circuit.{Forwards}
 use Rattle.ln_payment_circuits.proofs.Updates.{not_gone}
@@ -75,26 +76,25 @@ by_removal P id fulfils fails malformed k (command.Resume event mark) is = absur
 pub given : (id : ℕ) (k : Kind) (a c : Command) → Some a ≡ Some c → IsRemoval id k a → IsRemoval id k c
 given id k a c e h = let same : a ≡ c = cc in subst (IsRemoval id k) same h
 
-pub over_removes : (s : Services) (id : ℕ) (w : How) → IsRemoval id (kind_of w) (removal_resolved s id w)
-over_removes s id (how.Fulfilled p) = (refl, refl)
-over_removes s id (how.Failed reason) = (refl, refl)
-over_removes s id (how.Malformed sha code) = (refl, refl)
+pub over_removes : (s : Services) (x : Htlc) (w : How) → IsRemoval x.key.id (kind_of w) (removal_resolved s x w)
+over_removes s x (how.Fulfilled p) = (refl, refl)
+over_removes s x (how.Failed reason) = (refl, refl)
+over_removes s x (how.Malformed sha code) = (refl, refl)
 
-outgoing_removes : (s : Services) (id : ℕ) (w : OutgoingLeg) (c : Command) → removal_by_outgoing s id w ≡ Some c
-    → (k : Kind) × IsRemoval id k c
-outgoing_removes s id outgoing.Absent c e = absurd (cc)
-outgoing_removes s id outgoing.Refused c e = (Fails, given id Fails _ c e (refl, refl))
-outgoing_removes s id (outgoing.Offered k) c e = absurd (cc)
-outgoing_removes s id (outgoing.Resolved k w) c e = (
+outgoing_removes : (s : Services) (x : Htlc) (w : OutgoingLeg) (c : Command) → removal_by_outgoing s x w ≡ Some c
+    → (k : Kind) × IsRemoval x.key.id k c
+outgoing_removes s x outgoing.Absent c e = absurd (cc)
+outgoing_removes s x outgoing.Refused c e = (Fails, given x.key.id Fails _ c e (refl, refl))
+outgoing_removes s x (outgoing.Offered k) c e = absurd (cc)
+outgoing_removes s x (outgoing.Resolved k w) c e = (
   kind_of w,
-  given id (kind_of w) (removal_resolved s id w) c e
-      (over_removes s id w),
+  given x.key.id (kind_of w) (removal_resolved s x w) c e (over_removes s x w),
 )
 
 mark_removes : (s : Services) (x : Htlc) (m : Mark) (c : Command) → removal_by s x m ≡ Some c
     → (k : Kind) × IsRemoval x.key.id k c
 mark_removes s x mark.None c e = absurd (cc)
-mark_removes s x (mark.Forward channel amount expiry) c e = outgoing_removes s x.key.id x.outgoing c e
+mark_removes s x (mark.Forward channel amount expiry) c e = outgoing_removes s x x.outgoing c e
 mark_removes s x (mark.Fail reason) c e = (Fails, given x.key.id Fails _ c e (refl, refl))
 mark_removes s x (mark.Malformed code) c e = (Fails, given x.key.id Fails _ c e (refl, refl))
 mark_removes s x (mark.Fulfil p) c e = (Fulfils, given x.key.id Fulfils _ c e (refl, refl))

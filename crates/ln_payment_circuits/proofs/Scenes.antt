@@ -23,7 +23,8 @@ use Rattle.ln_book_tables.specs.Replay.{with_incoming}
 use Rattle.ln_book_tables.specs.Replay.{put_outgoing, is_settled, has_nothing_offered, is_open, is_finished, is_among}
 use Rattle.ln_book_tables.specs.Replay.{htlc_kept}
 use Rattle.ln_book.specs.Rebuild.{offer_for, rebuilt_htlcs}
-use Rattle.ln_book.specs.Commands.{Services, forwards_in, removal_by}
+use Rattle.ln_keys.specs.Services.{Services}
+use Rattle.ln_book.specs.Commands.{forwards_in, removal_by}
 use Rattle.ln_payment.specs.Parts.{Kind, Mark, Forward, Hold, Answer, Proposed, Removal, NoRemoval, By}
 use Rattle.ln_payment.specs.Parts.{Out, OutgoingLeg, Absent, Refused, Offered, Resolved, IncomingLeg, Open}
 use Rattle.ln_payment.specs.Parts.{RemovalSent, RemovalRefused, Settled, Note, Payment, Each, Among, IsAt, IsEnd}

@@ -29,7 +29,8 @@ use Rattle.ln_book_tables.specs.Replay.{with_mark}
 use Rattle.ln_book_tables.specs.Replay.{with_resolved, with_removed, htlc_kept}
 use Rattle.ln_book.specs.Kept.{kept_ids, next_own_id, has_own_removal}
 use Rattle.ln_book.specs.Rebuild.{rebuilt_htlcs}
-use Rattle.ln_book.specs.Commands.{Services, due, command_of}
+use Rattle.ln_keys.specs.Services.{Services}
+use Rattle.ln_book.specs.Commands.{due, command_of}
 use Rattle.ln_payment.specs.Rebuild.{everywhere}
 use Rattle.ln_payment.specs.Moves.{is_of}
 use Rattle.ln_payment_circuits.specs.Snapshot.{Snapshot, Incoming, AreFit, key_at, key_of, snapshots, is_gone, IsIn}

@@ -318,8 +318,8 @@ impl ChannelKeys for WaitingKeys {
         self.toy.verify(number, own_point, view, sig, htlcs)
     }
 
-    fn secret_fits(&self, secret: &[u8; 32], point: &[u8; 33]) -> bool {
-        self.toy.secret_fits(secret, point)
+    fn secret_fits(&self, number: u64, secret: &[u8; 32], point: &[u8; 33]) -> bool {
+        self.toy.secret_fits(number, secret, point)
     }
 
     fn sign_close(&self, fee: u64) -> [u8; 64] {

@@ -33,8 +33,8 @@ fn is_secret(number: u64, secret: &str, point: &str) -> bool {
     let point = point_of(point);
     FUNDER.secret(number) == secret
         && FUNDER.point(number) == point
-        && FUNDEE.secret_fits(&secret, &point)
-        && !FUNDEE.secret_fits(&[0; 32], &point)
+        && FUNDEE.secret_fits(number, &secret, &point)
+        && !FUNDEE.secret_fits(number, &[0; 32], &point)
 }
 
 #[test]
@@ -279,7 +279,11 @@ fn lengths_of_a_payload(rt: HostRuntime) {
 
 #[test]
 fn small_wrap(rt: HostRuntime) -> Result<(), Refusal> {
-    let wrapped = ToyOnion.wrap_failure(rt.alloc(), &[0x20, 2])?;
-    assert!(rt; wrapped.as_slice() == [0x20, 2].as_slice());
+    let failure = [0x20, 2];
+    let wrapped = ToyOnion.wrap_failure(rt.alloc(), &[0; 1366], &[0; 32], &failure)?;
+    assert!(rt; wrapped.as_slice() == failure.as_slice());
+    let reason = [0x31; 292];
+    let again = ToyOnion.wrap_again(rt.alloc(), &[0; 1366], &[0; 32], &reason)?;
+    assert!(rt; again.as_slice() == reason.as_slice());
     Ok(())
 }

@@ -6,7 +6,8 @@ use Rattle.ln_channel.specs.declared.command.Command.{Command}
 use Rattle.ln_channel.specs.declared.command.Command.TheVariants as command
 use Rattle.ln_book_tables.specs.declared.htlc.Htlc.{Htlc}
 use Rattle.ln_book_tables.specs.declared.entry.Out.{Out}
-use Rattle.ln_book.specs.Commands.{Services, command_of, add_of, add_with as add_by, next_of}
+use Rattle.ln_keys.specs.Services.{Services}
+use Rattle.ln_book.specs.Commands.{command_of, add_of, add_with as add_by, next_of}
 use Rattle.ln_payment_circuits.proofs.Removing.{by_removal, asked_removal}
 use Rattle.ln_payment_circuits.proofs.Due.{IsDueBy, Forgets, Offers, Removes, forgets_so}
 use Rattle.ln_world.proofs.Refusing.{IsBooks, IsFree}

@@ -39,7 +39,8 @@ use Rattle.ln_book_tables.specs.declared.htlc.Htlc.{Htlc}
 use Rattle.ln_book_tables.specs.Replay.{Table, same, is_usable, is_resumed, is_held_in, held_by}
 use Rattle.ln_channel_laws.specs.Widths.{IsMark, IsUpdate, IsAdd}
 use Rattle.ln_channel_laws.proofs.Offered.{Where}
-use Rattle.ln_book.specs.Commands.{Services, next_of}
+use Rattle.ln_keys.specs.Services.{Services}
+use Rattle.ln_book.specs.Commands.{own_failure, next_of}
 use Rattle.ln_book.specs.Marks.{offer_of, incoming_of, failure_by, unopened, outgoing_by, forward_mark, forwarded}
 use Rattle.ln_book.specs.Marks.{final_mark, final_payload, expected_by, read_hop, read, opened_mark, mark_of}
 use Rattle.ln_book.specs.Marks.{mark_by, decision, is_hold, resumed_mark, resumption}
@@ -172,11 +173,11 @@ event_so own (update.Fee f) h = tt
 
 -- ---- marks
 
-module _ (s : Services) (short : (f : Failure) → length (s.wrapped (failure_bytes f)) < 2 ^ 64) where
-  chosen : (hop : Hop) (l : Option OutgoingChannel) (b : Bool) (x : Failure) (f : Option Failure)
-      → (b ≡ false → IsMark (forward_mark s hop l f)) → IsMark (forward_mark s hop l (cond b (Some x) f))
-  chosen hop l true x f h = short x
-  chosen hop l false x f h = h refl
+module _ (s : Services) (short : (o : Offer) (f : Failure) → length (own_failure s o f) < 2 ^ 64) where
+  chosen : (o : Offer) (hop : Hop) (l : Option OutgoingChannel) (b : Bool) (x : Failure) (f : Option Failure)
+      → (b ≡ false → IsMark (forward_mark s o hop l f)) → IsMark (forward_mark s o hop l (cond b (Some x) f))
+  chosen o hop l true x f h = short o x
+  chosen o hop l false x f h = h refl
 
   -- what is forwarded is no more than what comes in, and expires no later
   paid_so : (o : Offer) (a e : ℕ) (next : Option (List ℕ)) (payment : Option Payment) (t : Table) (l : OutgoingChannel)
@@ -185,7 +186,7 @@ module _ (s : Services) (short : (f : Failure) → length (s.wrapped (failure_by
   paid_so o a e next payment t l is line =
       let hop : Hop = record { amount = Some a; expiry = Some e; next = next; payment = payment } in
       let paid = a + fee l.policy a in
-      let by = chosen hop (Some l) in
+      let by = chosen o hop (Some l) in
       by (is_none next) (failure.InvalidOnionPayload 6) _ (λ _.
       by (not (is_usable l.channel t)) failure.TemporaryChannelFailure _ (λ _.
       by ((a == 0) || nat_lt a l.minimum) (failure.AmountBelowMinimum a) _ (λ _.
@@ -202,49 +203,49 @@ module _ (s : Services) (short : (f : Failure) → length (s.wrapped (failure_by
   forwarded_so : (o : Offer) (amount expiry : Option ℕ) (next : Option (List ℕ)) (payment : Option Payment) (t : Table)
       (l : Option OutgoingChannel) → IsOffer o → Where IsOutgoing l
       → IsMark (forwarded s o (record { amount = amount; expiry = expiry; next = next; payment = payment }) t l)
-  forwarded_so o None expiry next payment t l is line = short (failure.InvalidOnionPayload 2)
-  forwarded_so o (Some a) None next payment t l is line = short (failure.InvalidOnionPayload 4)
+  forwarded_so o None expiry next payment t l is line = short o (failure.InvalidOnionPayload 2)
+  forwarded_so o (Some a) None next payment t l is line = short o (failure.InvalidOnionPayload 4)
   forwarded_so o (Some a) (Some e) next payment t None is line =
-      chosen (record { amount = Some a; expiry = Some e; next = next; payment = payment }) None (is_none next)
-      (failure.InvalidOnionPayload 6) (Some failure.UnknownNextPeer) (λ _. short failure.UnknownNextPeer)
+      chosen o (record { amount = Some a; expiry = Some e; next = next; payment = payment }) None (is_none next)
+      (failure.InvalidOnionPayload 6) (Some failure.UnknownNextPeer) (λ _. short o failure.UnknownNextPeer)
   forwarded_so o (Some a) (Some e) next payment t (Some l) is line = paid_so o a e next payment t l is line
 
   outgoing_so : (t : Table) (id : Option (List ℕ)) → IsTable t → Where IsOutgoing (outgoing_by t id)
   outgoing_so t None g = tt
   outgoing_so t (Some id) g = all-lookup IsOutgoing (same id) t.routes g.routes
 
-  final_so : (i : Option Invoice) (f : Option Failure) → Where IsInvoice i → IsMark (final_mark s i f)
-  final_so i (Some f) h = short f
-  final_so None None h = tt
-  final_so (Some i) None h = h
+  final_so : (o : Offer) (i : Option Invoice) (f : Option Failure) → Where IsInvoice i → IsMark (final_mark s o i f)
+  final_so o i (Some f) h = short o f
+  final_so o None None h = tt
+  final_so o (Some i) None h = h
 
   hop_read : (o : Offer) (t : Table) (b : Bool) (hop : Hop) → IsOffer o → IsTable t → IsMark (read_hop s o t b hop)
   hop_read o t true hop is g =
       let i = lookup (same o.hash) t.expected in
-      final_so i (final_fault (incoming_of o) (final_payload hop) (expected_by i) t.height)
+      final_so o i (final_fault (incoming_of o) (final_payload hop) (expected_by i) t.height)
       (all-lookup IsInvoice (same o.hash) t.expected g.expected)
   hop_read o t false hop is g =
       forwarded_so o hop.amount hop.expiry hop.next hop.payment t (outgoing_by t hop.next) is (outgoing_so t hop.next g)
 
   read_so : (o : Offer) (t : Table) (b : Bool) (r : Result Hop Fault) → IsOffer o → IsTable t → IsMark (read s o t b r)
-  read_so o t b (Err f) is g = short (failure.InvalidOnionPayload 0)
+  read_so o t b (Err f) is g = short o (failure.InvalidOnionPayload 0)
   read_so o t b (Ok hop) is g = hop_read o t b hop is g
 
-  unopened_so : (f : OpenFault) → IsMark (unopened s f)
-  unopened_so open_fault.Version = omega arith
-  unopened_so open_fault.Hmac = omega arith
-  unopened_so open_fault.Key = omega arith
-  unopened_so open_fault.Payload = short (failure.InvalidOnionPayload 0)
-  unopened_so open_fault.Memory = short (failure.InvalidOnionPayload 0)
+  unopened_so : (o : Offer) (f : OpenFault) → IsMark (unopened s o f)
+  unopened_so o open_fault.Version = omega arith
+  unopened_so o open_fault.Hmac = omega arith
+  unopened_so o open_fault.Key = omega arith
+  unopened_so o open_fault.Payload = short o (failure.InvalidOnionPayload 0)
+  unopened_so o open_fault.Memory = short o (failure.InvalidOnionPayload 0)
 
   opened_so : (o : Offer) (t : Table) (r : Result Opened OpenFault) → IsOffer o → IsTable t
       → IsMark (opened_mark s o t r)
-  opened_so o t (Err f) is g = unopened_so f
+  opened_so o t (Err f) is g = unopened_so o f
   opened_so o t (Ok p) is g = read_so o t (is_none p.next) (payload_at p.payload) is g
 
   by_so : (t : Table) (n : ℕ) (o : Offer) (v : Verdict) → IsOffer o → IsTable t → IsMark (mark_by s t n o v)
   by_so t n o verdict.Continue is g = opened_so o t (s.opened o.onion o.hash) is g
-  by_so t n o (verdict.Fail c) is g = short (failure_by c o t.height)
+  by_so t n o (verdict.Fail c) is g = short o (failure_by c o t.height)
   by_so t n o verdict.Hold is g = tt
 
   mark_so : (t : Table) (n : ℕ) (o : Option Offer) (v : Verdict) → Where IsOffer o → IsTable t

@@ -42,7 +42,8 @@ use Rattle.ln_book_tables.specs.Replay.{without_first, is_resumed, is_held_in, i
 use Rattle.ln_book_tables.specs.Replay.{resumed_of}
 use Rattle.ln_channel_laws.specs.Widths.{IsMark, IsCommand}
 use Rattle.ln_channel_laws.proofs.Offered.{All, all-append, all-filter, all-when, Where}
-use Rattle.ln_book.specs.Commands.{Services, due, next_of, add_with, removal_resolved, removal_by_outgoing, removal_by}
+use Rattle.ln_keys.specs.Services.{Services}
+use Rattle.ln_book.specs.Commands.{due, next_of, add_with, removal_resolved, removal_by_outgoing, removal_by}
 use Rattle.ln_book.specs.Commands.{forget_by, command_of, with_out, command_by, or_next, first_due, is_queued_in}
 use Rattle.ln_book.specs.Commands.{first_of, first_at, first_command}
 
@@ -380,21 +381,21 @@ module _ (s : Services) (nexts : (onion hash : List ℕ) → Where (λ n. length
     add_so h (mark.Fulfil preimage) (Some onion) g is next = tt
     add_so h (mark.Held event) (Some onion) g is next = tt
 
-    over_so : (id : ℕ) (h : How) → id < 2 ^ 64 → IsHow h → IsCommand (removal_resolved s id h)
-    over_so id (how.Fulfilled preimage) small is = record { id = small; preimage = is }
-    over_so id (how.Failed reason) small is = small
-    over_so id (how.Malformed sha code) small is = small
+    over_so : (x : Htlc) (h : How) → x.key.id < 2 ^ 64 → IsHow h → IsCommand (removal_resolved s x h)
+    over_so x (how.Fulfilled preimage) small is = record { id = small; preimage = is }
+    over_so x (how.Failed reason) small is = small
+    over_so x (how.Malformed sha code) small is = small
 
-    by_outgoing : (id : ℕ) (w : OutgoingLeg) → id < 2 ^ 64 → IsOutgoingLeg w
-        → Where IsCommand (removal_by_outgoing s id w)
-    by_outgoing id outgoing.Absent small is = tt
-    by_outgoing id outgoing.Refused small is = small
-    by_outgoing id (outgoing.Offered k) small is = tt
-    by_outgoing id (outgoing.Resolved k h) small is = over_so id h small is
+    by_outgoing : (x : Htlc) (w : OutgoingLeg) → x.key.id < 2 ^ 64 → IsOutgoingLeg w
+        → Where IsCommand (removal_by_outgoing s x w)
+    by_outgoing x outgoing.Absent small is = tt
+    by_outgoing x outgoing.Refused small is = small
+    by_outgoing x (outgoing.Offered k) small is = tt
+    by_outgoing x (outgoing.Resolved k h) small is = over_so x h small is
 
     removal_so : (h : Htlc) (m : Mark) → IsHtlc h → IsMark m → Where IsCommand (removal_by s h m)
     removal_so h mark.None g is = tt
-    removal_so h (mark.Forward d amount expiry) g is = by_outgoing h.key.id h.outgoing g.key.id g.outgoing
+    removal_so h (mark.Forward d amount expiry) g is = by_outgoing h h.outgoing g.key.id g.outgoing
     removal_so h (mark.Fail reason) g is = g.key.id
     removal_so h (mark.Malformed code) g is =
         record { id = g.key.id; sha256_of_onion = length-sha256 h.offer.onion; failure_code = is }

@@ -143,7 +143,7 @@ decided_so : (e : End) (x : ℕ × ChannelEvent × Verdict) (b : Book) → IsWai
     → IsBook (with_decision e x b)
 decided_so e x b is h =
     entered_so (entry.Decided _) b
-    (decision_so services failure_short (table_of b) (id_of e) x.0 (offer_of x.1) x.2 (id_so e.channel) h
+    (decision_so services (λ _. failure_short) (table_of b) (id_of e) x.0 (offer_of x.1) x.2 (id_so e.channel) h
     (offer_so x.1 is)) h
 
 deciding_so : (e : End) (o : Option (ℕ × ChannelEvent × Verdict)) (b : Book) → Where IsWaiting o → IsBook b
@@ -159,7 +159,7 @@ resumed_so e n (Some m) b is h = entered_so (entry.Resumed _) b is h
 resuming_so : (e : End) (n : ℕ) (v : Verdict) (b : Book) → IsBook b → Where IsBook (resuming e n v b)
 resuming_so e n v b h =
     resumed_so e n (resumption services (table_of b) (id_of e) n v) b
-    (resumption_so services failure_short (table_of b) (id_of e) n v h) h
+    (resumption_so services (λ _. failure_short) (table_of b) (id_of e) n v h) h
 
 by_so : (e : End) (o : Option Book) → Where IsBook o → Where IsCommand (command_by e o)
 by_so e None h = tt

@@ -1,12 +1,12 @@
 -- What a node has beside its channels: what it asks for forwarding, and its book of payments.
 use Rattle.std.specs.Prelude.{List, [], ◌∷◌, if◌then◌else◌}
-use Rattle.ln_keys.specs.ToyOnion.{toy_opened}
+use Rattle.ln_keys.specs.ToyOnion.{toy_services}
 use Rattle.ln_forward.specs.declared.checks.Policy.{Policy}
 use Rattle.ln_book_tables.specs.declared.entry.Entry.{Entry}
 use Rattle.ln_book_tables.specs.declared.entry.Entry.TheVariants as entry
 use Rattle.ln_history.specs.History.{History, begun_with, with_entry}
 use Rattle.ln_book_tables.specs.Replay.{Table, no_table}
-use Rattle.ln_book.specs.Commands.{Services}
+use Rattle.ln_keys.specs.Services.{Services}
 use Rattle.ln_world_channels.specs.declared.step.Node.{Node}
 use Rattle.ln_world_channels.specs.WorldChannel.{is_node}
 use Rattle.ln_world.specs.declared.node.NodeBook.{NodeBook}
@@ -17,7 +17,7 @@ Book = History Table Entry
 
 -- the services of every node: toy onions, whose failures are passed on as they are
 abbrev pub services : Services
-services = record { opened = toy_opened; wrapped = λ reason. reason }
+services = toy_services
 
 -- ---- a node of which nothing was said: it asks for 1000 msat, 100 millionths of the amount and 40 blocks, and the
 -- block height is 100

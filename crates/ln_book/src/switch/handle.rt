@@ -33,7 +33,7 @@ impl<O: Onion + Copy + Drop> BookHandle<O> {
     ghost use Rattle.ln_book_tables.specs.declared.entry.Entry.TheVariants as entry;
     ghost use Rattle.ln_history.specs.History.{with_entry};
     ghost use Rattle.ln_book_tables.specs.Replay.{table_of};
-    ghost use Rattle.ln_book.specs.Commands.{services_of, first_command, with_taken};
+    ghost use Rattle.ln_book.specs.Commands.{first_command, with_taken};
     ghost use Rattle.ln_book.specs.Marks.{offer_of, mark_of, decision};
     ghost use Rattle.ln_book.specs.Settled.{with_settled, keeps_a_reason};
     ghost use Rattle.ln_book.specs.Saying.{took, answered, settled, decided, dropped, uses, last_use};
@@ -63,10 +63,10 @@ impl<O: Onion + Copy + Drop> BookHandle<O> {
         book: &mut Book,
         channel: ChannelId,
     ) -> Result<Option<Command>, Refusal>
-        ensures answers_the_first { IfOk result (λ c. c ≡ option_map (λ x. x.1) (first_command (services_of O.opened
-            O.wrapped (onion_of self.old)) channel (table_of book.old))) }
-        ensures enters_what_is_taken { OnOk result (book.new ≡ with_taken channel (first_command (services_of O.opened
-            O.wrapped (onion_of self.old)) channel (table_of book.old)) book.old) }
+        ensures answers_the_first { IfOk result (λ c. c ≡ option_map (λ x. x.1) (first_command
+            (O.services (onion_of self.old)) channel (table_of book.old))) }
+        ensures enters_what_is_taken { OnOk result (book.new ≡ with_taken channel (first_command
+            (O.services (onion_of self.old)) channel (table_of book.old)) book.old) }
         ensures changes_nothing_if_refused { OnErr result (book.new ≡ book.old) }
         ensures says_what_is_taken { IfOk result (λ c. said self.new ≡ said self.old ++ took channel c) }
         ensures says_nothing_if_refused { OnErr result (said self.new ≡ said self.old) }
@@ -131,10 +131,10 @@ impl<O: Onion + Copy + Drop> BookHandle<O> {
         event: &ChannelEvent,
         verdict: Verdict,
     ) -> Result<Mark, Refusal>
-        ensures answers_the_mark { IfOk result (λ m. m ≡ mark_of (services_of O.opened O.wrapped (onion_of self.old))
+        ensures answers_the_mark { IfOk result (λ m. m ≡ mark_of (O.services (onion_of self.old))
             (table_of book.old) number (offer_of event.now) verdict) }
-        ensures enters_the_decision { OnOk result (book.new ≡ with_entry (entry.Decided (decision (services_of
-            O.opened O.wrapped (onion_of self.old)) (table_of book.old) channel number (offer_of event.now) verdict))
+        ensures enters_the_decision { OnOk result (book.new ≡ with_entry (entry.Decided (decision
+            (O.services (onion_of self.old)) (table_of book.old) channel number (offer_of event.now) verdict))
             book.old) }
         ensures changes_nothing_if_refused { OnErr result (book.new ≡ book.old) }
         ensures says_the_verdict { OnOk result (said self.new

@@ -6,7 +6,6 @@ ghost use Rattle.ln_log.specs.declared.update.Add.{Add};
 ghost use Rattle.ln_log.specs.declared.update.Update.TheVariants as update;
 ghost use Rattle.ln_log.specs.Limits.{is_at_update_limit};
 ghost use Rattle.ln_forward.specs.declared.failure.Failure.TheVariants as failure;
-ghost use Rattle.ln_forward.specs.Failure.{failure_bytes};
 ghost use Rattle.ln_channel.specs.declared.command.Command.{Command};
 ghost use Rattle.ln_channel.specs.declared.command.Command.TheVariants as command;
 ghost use Rattle.ln_channel.specs.Commands.{own_fault};
@@ -23,7 +22,8 @@ ghost use Rattle.ln_book_tables.specs.declared.entry.Entry.TheVariants as entry;
 ghost use Rattle.ln_history.specs.History.{History, with_entry};
 ghost use Rattle.ln_book_tables.specs.Replay.{Table, table_of, pending_command_at, is_htlc, is_open, htlc_kept};
 ghost use Rattle.ln_book_tables.specs.Replay.{same, is_among, is_queued};
-ghost use Rattle.ln_book.specs.Commands.{Services, first_command, with_taken, due, command_by};
+ghost use Rattle.ln_keys.specs.Services.{Services};
+ghost use Rattle.ln_book.specs.Commands.{own_failure, first_command, with_taken, due, command_by};
 ghost use Rattle.ln_book.specs.Answers.{replied};
 ghost use Rattle.ln_book.specs.Owing.{Owes, is_lost};
 ghost use Rattle.ln_book.specs.Uses.{takes_payments};
@@ -59,7 +59,7 @@ pub fn a_refused_offer_fails_back()
         → (g : Htlc) × (find (is_htlc k) (table_of (replied c (Err r) b)).htlcs ≡ Some g)
         × (command_by s g (due k.channel g) ≡ Some (
           out.Removing k,
-          command.Fail k.id (s.wrapped (failure_bytes failure.TemporaryChannelFailure)),
+          command.Fail k.id (own_failure s h.offer failure.TemporaryChannelFailure),
         )) }
 {}
 
