@@ -40,7 +40,6 @@ use std::alloc::Global;
 
 /// A link whose host brings keys, disk and sockets: what it hands out waits in a line. Where no record waits it keeps
 /// the one that its host has, to tell a new one by.
-#[derive(Drop)]
 pub struct HostLink {
     link: Link<HostKeys>,
     first_point: [u8; 33],
@@ -50,6 +49,28 @@ pub struct HostLink {
     secrets: Vec<PeerSecret>,
     line: Line,
     is_shown: bool,
+}
+
+// By hand: crates above don't prove again how its parts are dropped.
+impl Drop for HostLink {
+    fn drop(self) {
+        let HostLink {
+            link,
+            first_point: _,
+            store,
+            taken,
+            signatures,
+            secrets,
+            line,
+            is_shown: _,
+        } = self;
+        drop(link);
+        drop(store);
+        drop(taken);
+        drop(signatures);
+        drop(secrets);
+        drop(line);
+    }
 }
 
 // The peer's secrets with the one that a message tells, made before the message is taken: none is lost for want of
