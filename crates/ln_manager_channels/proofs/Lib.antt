@@ -1,1 +1,3 @@
 mod Placed
+pub mod Obeyed
+pub mod Seated

@@ -6,3 +6,4 @@ pub mod Commands
 pub mod Events
 pub mod Books
 pub mod Loading
+pub mod Obeying

@@ -1,5 +1,5 @@
 -- What comes back from the records of all channels.
-use Rattle.std.specs.Prelude.{ℕ, List, [], ◌∷◌, ◌++◌, length, Option, Some, None, is_some, Result}
+use Rattle.std.specs.Prelude.{◌≡◌, ◌⊎◌, ℕ, List, [], ◌∷◌, ◌++◌, length, Option, Some, None, is_some, Result, Ok, Err}
 use Rattle.std.specs.Prelude.{if◌then◌else◌}
 use Rattle.ln_refusals.specs.declared.refusal.Refusal.{Refusal}
 use Rattle.ln_refusals.specs.declared.refusal.Refusal.TheVariants as refusal
@@ -43,3 +43,26 @@ seated l s = record {
 
 unfoldable pub ComesBack : {K : Type 0} → Saved K → Result (State K) Refusal → Type 0
 ComesBack x answer = Loads x.keys (record_at x.bytes) answer
+
+-- a link has come back from this record, and has the next number
+abbrev pub SeatsOne : {K : Type 0} → Saved K → Seats K → Seats K → Type 0
+SeatsOne x p q = (l : State _) × ComesBack x (Ok l) × (seat_fault (link_id l) p.numbers ≡ None) × (q ≡ seated l p)
+
+-- none has: it can't be read, or another one has its id
+abbrev pub LacksOne : {K : Type 0} → Saved K → Seats K → Refusal → Type 0
+LacksOne x p r =
+    ComesBack x (Err r) ⊎ ((l : State _) × ComesBack x (Ok l) × (seat_fault (link_id l) p.numbers ≡ Some r))
+
+-- ---- all do, in the order of their records
+
+abbrev pub SeatsAll : {K : Type 0} → List (Saved K) → Seats K → Seats K → Type 0
+SeatsAll [] p q = q ≡ p
+SeatsAll (x ∷ xs) p q = (m : Seats _) × SeatsOne x p m × SeatsAll xs m q
+
+-- the first that can't tells why
+abbrev pub LacksSome : {K : Type 0} → List (Saved K) → Seats K → Refusal → Type 0
+LacksSome [] p r = ⊥
+LacksSome (x ∷ xs) p r = LacksOne x p r ⊎ ((m : Seats _) × SeatsOne x p m × LacksSome xs m r)
+
+abbrev pub no_seats : {K : Type 0} → Seats K
+no_seats = record { links = []; records = []; numbers = [] }

@@ -10,7 +10,7 @@ use Rattle.ln_keys.specs.Signer.{Signer}
 use Rattle.ln_channel.specs.declared.command.Command.{Command}
 use Rattle.ln_channel.specs.declared.output.Output.{Output}
 use Rattle.ln_channel.specs.Asking.{with_named, naming_answer}
-use Rattle.ln_channel.specs.State.{State, halts}
+use Rattle.ln_channel.specs.State.{State, KeepsChannel, halts}
 use Rattle.ln_channel.specs.Step.{Answered, connected, commanded, opened}
 use Rattle.ln_link.specs.Saving.{StoreView, AnswersOver, AnswersCommand}
 use Rattle.ln_manager_channels.specs.declared.newest.Newest.{Newest}
@@ -31,10 +31,11 @@ naming_in (Some l) = naming_answer l.stage
 abbrev pub with_funding : {K : Type 0} → List ℕ → ℕ → State K → State K
 with_funding txid output l = record l { stage = with_named txid output l.stage }
 
--- ---- it is connected
+-- ---- it is connected; a link keeps the channel of its end, also where it halts for want of memory
 
 unfoldable pub Connects : {K : Type 0} → (K → Signer) → State K → State K → Answer → Type 0
-Connects signer l new answer = Answered (λ v. v.items) (connected (signer l.keys) l) l answer new
+Connects signer l new answer =
+    Answered (λ v. v.items) (connected (signer l.keys) l) l answer new × KeepsChannel l.stage new.stage
 
 -- ---- over its store
 
@@ -63,6 +64,7 @@ knowing id n = record n { kept = map.insert n.kept id [] }
 unfoldable pub Takes : {K : Type 0} → (K → Signer) → K → Message → State K → State K → Newest → Newest → Answer → Type 0
 Takes signer keys m l new n n' answer =
     AnswersOver (λ v. v.items) (signer keys) (record l { keys = keys }) m answer new (store_of n) (store_of n')
+    × KeepsChannel l.stage new.stage
 
 abbrev pub TakesAt : {K : Type 0} → (K → Signer) → ℕ → K → Message → Answer → List (State K) → List (State K) → Newest
     → Newest → Type 0
@@ -118,6 +120,7 @@ TakesMessage signer c keys m answer p q =
 unfoldable pub Obeys : {K : Type 0} → (K → Signer) → Command → State K → State K → Newest → Newest → Answer → Type 0
 Obeys signer x l new n n' answer =
     AnswersCommand (λ v. v.items) (commanded (signer l.keys) l x) l x answer new (store_of n) (store_of n')
+    × KeepsChannel l.stage new.stage
 
 abbrev pub ObeysAt : {K : Type 0} → (K → Signer) → ℕ → Command → Answer → List (State K) → List (State K) → Newest
     → Newest → Type 0

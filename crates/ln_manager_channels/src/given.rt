@@ -2,6 +2,7 @@
 
 ghost use Rattle.std.specs.Prelude.{◌≡◌};
 ghost use Rattle.ln_manager_channels.specs.Links.{done_in};
+ghost use Rattle.ln_manager_channels.specs.Obeying.{given_of};
 
 use ln_channel::Output;
 use ln_log::ChannelId;
@@ -37,7 +38,9 @@ pub(crate) fn given_of(
     answer: Result<Vec<Output>, Refusal>,
     waits: bool,
     origin: Option<ChannelId>,
-) -> Given {
+) -> Given
+    ensures { result ≡ given_of answer waits origin }
+{
     match answer {
         Ok(outputs) => Given::Done(outputs),
         Err(_) => {

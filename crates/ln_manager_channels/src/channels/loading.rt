@@ -27,7 +27,8 @@ impl<K: ChannelKeys + Drop> Channels<K> {
     ghost use Rattle.ln_book.specs.Rebuild.{rebuilt};
     ghost use Rattle.ln_manager_channels.specs.Books.{snapshots_of};
     ghost use Rattle.ln_manager_channels.specs.Links.{id_by_end};
-    ghost use Rattle.ln_manager_channels.specs.Loading.{seat_fault, numbered_by, seated, link_id};
+    ghost use Rattle.ln_manager_channels.specs.Loading.{seat_fault, numbered_by, seated, link_id, no_seats};
+    ghost use Rattle.ln_manager_channels.specs.Loading.{SeatsOne, LacksOne, SeatsAll, LacksSome};
     ghost use Rattle.ln_manager_channels.specs.Moves.{with_place};
 
     // The next number is that of a channel of this id. Errors: 70 where there is another one, 60.
@@ -83,6 +84,11 @@ impl<K: ChannelKeys + Drop> Channels<K> {
 
     // A channel comes back from its record. Errors: 70 where another one has its id; those of `Link::from_record`.
     fn load_one(&mut self, alloc: Global, saved: Saved<K>) -> Result<(), Refusal>
+        ensures seats { OnOk result (SeatsOne saved
+            (record { links = self.old.links.items; records = self.old.records.items; numbers = self.old.numbers })
+            (record { links = self.new.links.items; records = self.new.records.items; numbers = self.new.numbers })) }
+        ensures fails { IfErr result (λ r. (r ≡ Refusal.Memory) ⊎ LacksOne saved
+            (record { links = self.old.links.items; records = self.old.records.items; numbers = self.old.numbers }) r) }
         ensures book_stays { self.new.book ≡ self.old.book }
     {
         match come_back(alloc, saved) {
@@ -91,11 +97,20 @@ impl<K: ChannelKeys + Drop> Channels<K> {
         }
     }
 
+    // All do, in their order. Errors: those of the first that doesn't.
     fn load_each(&mut self, alloc: Global, saved: Vec<Saved<K>>) -> Result<(), Refusal>
+        ensures seats { OnOk result (SeatsAll saved.items
+            (record { links = self.old.links.items; records = self.old.records.items; numbers = self.old.numbers })
+            (record { links = self.new.links.items; records = self.new.records.items; numbers = self.new.numbers })) }
+        ensures fails { IfErr result (λ r. (r ≡ Refusal.Memory) ⊎ LacksSome saved.items
+            (record { links = self.old.links.items; records = self.old.records.items; numbers = self.old.numbers }) r) }
         ensures book_stays { self.new.book ≡ self.old.book }
     {
         for each in saved {
-            self.load_one(alloc, each)?;
+            match self.load_one(alloc, each) {
+                Ok(()) => {}
+                Err(refusal) => return Err(refusal),
+            }
         }
         Ok(())
     }
@@ -128,7 +143,13 @@ impl<K: ChannelKeys + Drop> Channels<K> {
         }
     }
 
+    // All do, and the book begins with their ends.
     fn load_all(&mut self, alloc: Global, saved: Vec<Saved<K>>) -> Result<(), Refusal>
+        ensures seats { OnOk result (SeatsAll saved.items
+            (record { links = self.old.links.items; records = self.old.records.items; numbers = self.old.numbers })
+            (record { links = self.new.links.items; records = self.new.records.items; numbers = self.new.numbers })) }
+        ensures fails { IfErr result (λ r. (r ≡ Refusal.Memory) ⊎ LacksSome saved.items
+            (record { links = self.old.links.items; records = self.old.records.items; numbers = self.old.numbers }) r) }
         ensures begins_anew { OnOk result (self.new.book
             ≡ begun_with (rebuilt (table_of self.old.book) (snapshots_of self.new.links.items))) }
     {
@@ -143,6 +164,9 @@ impl<K: ChannelKeys + Drop> Channels<K> {
     ///
     /// Errors: those of `Link::from_record` (70, 71), 70 where two records have one id, and 60.
     pub fn load(alloc: Global, saved: Vec<Saved<K>>) -> Result<Channels<K>, Refusal>
+        ensures seats { IfOk result (λ c. SeatsAll saved.items no_seats
+            (record { links = c.links.items; records = c.records.items; numbers = c.numbers })) }
+        ensures fails { IfErr result (λ r. (r ≡ Refusal.Memory) ⊎ LacksSome saved.items no_seats r) }
         ensures begins_with_the_ends { IfOk result (λ c. c.book
             ≡ begun_with (rebuilt no_table (snapshots_of c.links.items))) }
     {

@@ -1,7 +1,7 @@
 //! What the book commands, and what is decided.
 
 use crate::channels::Channels;
-use crate::commands::{decides, is_decision, origin_of, resumes};
+use crate::commands::{Due, is_decision, is_due, origin_of};
 use crate::events::first_event;
 use crate::given::{Given, done_of, given_of};
 use ln_book::{answer_to, waits};
@@ -13,19 +13,30 @@ use ln_refusals::Refusal;
 use std::alloc::Global;
 
 impl<K: ChannelKeys + Drop> Channels<K> {
-    ghost use Rattle.std.specs.Prelude.{◌≡◌, ℕ, List, Some, None, slice_get, option_copied, IfOk, IfErr, IfSome, OnErr};
-    ghost use Rattle.ln_channel.specs.State.{State};
+    ghost use Rattle.std.specs.Prelude.{◌≡◌, ◌⊎◌, None, slice_get, IfOk, IfErr, OnOk, OnErr};
+    ghost use Rattle.ln_channel.specs.State.{halts};
     ghost use Rattle.ln_history.specs.History.{with_entry};
     ghost use Rattle.ln_book_tables.specs.declared.entry.Entry.TheVariants as entry;
     ghost use Rattle.ln_book_tables.specs.Replay.{table_of};
-    ghost use Rattle.ln_book.specs.Commands.{services_of};
-    ghost use Rattle.ln_book.specs.Marks.{offer_of, decision};
-    ghost use Rattle.std.specs.Prelude.{OnOk};
+    ghost use Rattle.ln_book.specs.Marks.{offer_of, mark_of, decision};
+    ghost use Rattle.ln_manager_channels.specs.declared.given.Given.TheVariants as given;
+    ghost use Rattle.ln_manager_channels.specs.Commands as commands;
+    ghost use Rattle.ln_manager_channels.specs.Events as events;
+    ghost use Rattle.ln_manager_channels.specs.Links.{working_id, working_end};
+    ghost use Rattle.ln_manager_channels.specs.Obeying as obeying;
+    ghost use Rattle.ln_manager_channels.specs.Obeying.{Gives, Concludes, ConcludesDue, ObeysBook, Decides, Resumes};
+    ghost use Rattle.ln_manager_channels.specs.Obeying.{holds_none};
+    ghost use Rattle.ln_manager_channels.specs.Places.{changed_at};
 
     // ---- what the book commands
 
     // A link is given a command that was taken of the book, and the book is told what it answers, unless it has halted.
-    fn give(&mut self, alloc: Global, channel: usize, id: ChannelId, command: Command) -> Given {
+    fn give(&mut self, alloc: Global, channel: usize, id: ChannelId, command: Command) -> Given
+        ensures gives { Gives K.signer channel id command result
+            (record { links = self.old.links.items; records = self.old.records.items; book = self.old.book })
+            (record { links = self.new.links.items; records = self.new.records.items; book = self.new.book }) }
+        ensures numbers_stay { self.new.numbers ≡ self.old.numbers }
+    {
         let subject = self.subject(channel, &command);
         let origin = origin_of(&command);
         let given = self.obey(alloc, channel, command);
@@ -39,9 +50,35 @@ impl<K: ChannelKeys + Drop> Channels<K> {
     }
 
     // The link of a channel halts, as a command isn't the one that was to come, or has to wait.
-    fn stop(&mut self, channel: usize) -> Given {
+    fn stop(&mut self, channel: usize) -> Given
+        ensures answer { result ≡ given.Halted }
+        ensures halts { self.new.links.items ≡ changed_at channel halts self.old.links.items }
+        ensures records_stay { self.new.records.items ≡ self.old.records.items }
+        ensures numbers_stay { self.new.numbers ≡ self.old.numbers }
+        ensures book_stays { self.new.book ≡ self.old.book }
+    {
         self.halt(channel);
         Given::Halted
+    }
+
+    // The first command of the book, that isn't a decision.
+    fn obey_command(
+        &mut self,
+        alloc: Global,
+        channel: usize,
+        id: ChannelId,
+        command: Command,
+    ) -> Given
+        ensures obeys { obeying.ObeysCommand K.signer channel id command (commands.is_decision command) result
+            (record { links = self.old.links.items; records = self.old.records.items; book = self.old.book })
+            (record { links = self.new.links.items; records = self.new.records.items; book = self.new.book }) }
+        ensures numbers_stay { self.new.numbers ≡ self.old.numbers }
+    {
+        if is_decision(&command) {
+            drop(command);
+            return self.stop(channel);
+        }
+        self.give(alloc, channel, id, command)
     }
 
     /// A link that works is given the first command of the book, where that is about an HTLC, and the book is told what
@@ -51,84 +88,77 @@ impl<K: ChannelKeys + Drop> Channels<K> {
         alloc: Global,
         onion: &O,
         channel: usize,
-    ) -> Result<Given, Refusal> {
+    ) -> Result<Given, Refusal>
+        ensures obeys { IfOk result (λ g. ObeysBook K.signer (O.services onion.now) channel
+            (working_id (slice_get self.old.links.items channel)) g
+            (record { links = self.old.links.items; records = self.old.records.items; book = self.old.book })
+            (record { links = self.new.links.items; records = self.new.records.items; book = self.new.book })) }
+        ensures fails_for_memory_alone { IfErr result (λ r. r ≡ Refusal.Memory) }
+        ensures links_stay_if_refused { OnErr result (self.new.links.items ≡ self.old.links.items) }
+        ensures records_stay_if_refused { OnErr result (self.new.records.items ≡ self.old.records.items) }
+        ensures book_stays_if_refused { OnErr result (self.new.book ≡ self.old.book) }
+        ensures numbers_stay { self.new.numbers ≡ self.old.numbers }
+    {
         let Some(id) = self.working_id(channel) else {
             return Ok(Given::Nothing);
         };
-        match self.book.take_commands(alloc, onion, id)? {
-            None => Ok(Given::Nothing),
-            Some(command) => {
-                if is_decision(&command) {
-                    drop(command);
-                    return Ok(self.stop(channel));
-                }
-                Ok(self.give(alloc, channel, id, command))
-            }
+        match self.book.take_commands(alloc, onion, id) {
+            Err(refusal) => Err(refusal),
+            Ok(None) => Ok(Given::Nothing),
+            Ok(Some(command)) => Ok(self.obey_command(alloc, channel, id, command)),
         }
     }
 
     // A link is given its decision; one that can't take it now halts.
-    fn conclude(
-        &mut self,
-        alloc: Global,
-        channel: usize,
-        id: ChannelId,
-        command: Command,
-    ) -> Given {
+    fn conclude(&mut self, alloc: Global, channel: usize, id: ChannelId, command: Command) -> Given
+        ensures concludes { Concludes K.signer channel id command result
+            (record { links = self.old.links.items; records = self.old.records.items; book = self.old.book })
+            (record { links = self.new.links.items; records = self.new.records.items; book = self.new.book }) }
+        ensures numbers_stay { self.new.numbers ≡ self.old.numbers }
+    {
         match self.give(alloc, channel, id, command) {
             Given::Waits => self.stop(channel),
             given => given,
         }
     }
 
-    // The link of a channel decides the event of this number, as the book has just decided; it halts where it can't.
-    fn obey_decision<O: Onion>(
+    // The link of a channel is given what the book has just entered for it; it halts where it can't.
+    fn obey_due<O: Onion>(
         &mut self,
         alloc: Global,
         onion: &O,
         channel: usize,
         id: ChannelId,
-        event: u64,
-    ) -> Given {
+        due: Due,
+    ) -> Given
+        ensures concludes { ConcludesDue K.signer (O.services onion.now) channel id (obeying.is_due due) result
+            (record { links = self.old.links.items; records = self.old.records.items; book = self.old.book })
+            (record { links = self.new.links.items; records = self.new.records.items; book = self.new.book }) }
+        ensures numbers_stay { self.new.numbers ≡ self.old.numbers }
+    {
         match self.book.take_commands(alloc, onion, id) {
             Ok(Some(command)) => {
-                if decides(event, &command) {
+                if is_due(due, &command) {
                     return self.conclude(alloc, channel, id, command);
                 }
                 drop(command);
                 self.stop(channel)
             }
-            _ => self.stop(channel),
+            Ok(None) => self.stop(channel),
+            Err(_) => self.stop(channel),
         }
     }
 
-    // It resumes what is held by this number.
-    fn obey_resumption<O: Onion>(
-        &mut self,
-        alloc: Global,
-        onion: &O,
-        channel: usize,
-        id: ChannelId,
-        event: u64,
-    ) -> Given {
-        match self.book.take_commands(alloc, onion, id) {
-            Ok(Some(command)) => {
-                if resumes(event, &command) {
-                    return self.conclude(alloc, channel, id, command);
-                }
-                drop(command);
-                self.stop(channel)
-            }
-            _ => self.stop(channel),
-        }
-    }
-
-    // The first undecided event of a link that works, with its number. Error: 60 alone.
+    // The first undecided event of a link that works, with the id of its channel and its number. Error: 60 alone.
     fn next_event(
         &self,
         alloc: Global,
         channel: usize,
-    ) -> Result<Option<(u64, ChannelEvent)>, Refusal> {
+    ) -> Result<Option<(ChannelId, u64, ChannelEvent)>, Refusal>
+        ensures event { IfOk result (λ e. e
+            ≡ events.next_event (working_end (slice_get self.now.links.items channel))) }
+        ensures fails_for_memory_alone { IfErr result (λ r. r ≡ Refusal.Memory) }
+    {
         let Some(machine) = self.machine(channel) else {
             return Ok(None);
         };
@@ -138,13 +168,17 @@ impl<K: ChannelKeys + Drop> Channels<K> {
         let Some(end) = machine.saved() else {
             return Ok(None);
         };
-        match first_event(alloc, end)? {
-            None => Ok(None),
-            Some(event) => Ok(Some((end.ledger().decided(), event))),
+        match first_event(alloc, end) {
+            Err(refusal) => Err(refusal),
+            Ok(None) => Ok(None),
+            Ok(Some(event)) => {
+                let id = end.id();
+                Ok(Some((id, end.ledger().decided(), event)))
+            }
         }
     }
 
-    // The book decides an event by what is said of it. Error: 60 alone.
+    // The book decides an event by what is said of it. Error: 60 alone, and nothing has changed.
     fn decide_in_book<O: Onion>(
         &mut self,
         alloc: Global,
@@ -154,10 +188,15 @@ impl<K: ChannelKeys + Drop> Channels<K> {
         event: ChannelEvent,
         verdict: Verdict,
     ) -> Result<Mark, Refusal>
-        ensures decides { OnOk result (self.new.book ≡ with_entry (entry.Decided (decision (services_of O.opened
-            O.wrapped onion.now) (table_of self.old.book) id number (offer_of event) verdict)) self.old.book) }
+        ensures answers_the_mark { IfOk result (λ m. m ≡ mark_of (O.services onion.now) (table_of self.old.book) number
+            (offer_of event) verdict) }
+        ensures decides { OnOk result (self.new.book ≡ with_entry (entry.Decided (decision (O.services onion.now)
+            (table_of self.old.book) id number (offer_of event) verdict)) self.old.book) }
         ensures changes_nothing_if_refused { OnErr result (self.new.book ≡ self.old.book) }
+        ensures fails_for_memory_alone { IfErr result (λ r. r ≡ Refusal.Memory) }
         ensures links_stay { self.new.links.items ≡ self.old.links.items }
+        ensures records_stay { self.new.records.items ≡ self.old.records.items }
+        ensures numbers_stay { self.new.numbers ≡ self.old.numbers }
     {
         let decided = self.book.decide(alloc, onion, id, number, &event, verdict);
         drop(event);
@@ -174,16 +213,31 @@ impl<K: ChannelKeys + Drop> Channels<K> {
         onion: &O,
         channel: usize,
         verdict: Verdict,
-    ) -> Result<(Mark, Given), Refusal> {
-        let Some(id) = self.working_id(channel) else {
-            return Err(Refusal::NotReady);
-        };
-        match self.next_event(alloc, channel)? {
-            None => Err(Refusal::NotReady),
-            Some((number, event)) => {
-                let mark = self.decide_in_book(alloc, onion, id, number, event, verdict)?;
-                let given = self.obey_decision(alloc, onion, channel, id, number);
-                Ok((mark, given))
+    ) -> Result<(Mark, Given), Refusal>
+        ensures decides { IfOk result (λ r. Decides K.signer (O.services onion.now) channel
+            (events.next_event (working_end (slice_get self.old.links.items channel))) verdict r
+            (record { links = self.old.links.items; records = self.old.records.items; book = self.old.book })
+            (record { links = self.new.links.items; records = self.new.records.items; book = self.new.book })) }
+        ensures fails { IfErr result (λ r. (r ≡ Refusal.Memory) ⊎ ((r ≡ Refusal.NotReady)
+            × (events.next_event (working_end (slice_get self.old.links.items channel)) ≡ None))) }
+        ensures links_stay_if_refused { OnErr result (self.new.links.items ≡ self.old.links.items) }
+        ensures records_stay_if_refused { OnErr result (self.new.records.items ≡ self.old.records.items) }
+        ensures book_stays_if_refused { OnErr result (self.new.book ≡ self.old.book) }
+        ensures numbers_stay { self.new.numbers ≡ self.old.numbers }
+    {
+        match self.next_event(alloc, channel) {
+            Err(refusal) => Err(refusal),
+            Ok(None) => Err(Refusal::NotReady),
+            Ok(Some(next)) => {
+                let (id, number, event) = next;
+                match self.decide_in_book(alloc, onion, id, number, event, verdict) {
+                    Err(refusal) => Err(refusal),
+                    Ok(mark) => {
+                        let due = Due::Decision(number);
+                        let given = self.obey_due(alloc, onion, channel, id, due);
+                        Ok((mark, given))
+                    }
+                }
             }
         }
     }
@@ -198,14 +252,27 @@ impl<K: ChannelKeys + Drop> Channels<K> {
         channel: usize,
         event: u64,
         verdict: Verdict,
-    ) -> Result<(Mark, Given), Refusal> {
+    ) -> Result<(Mark, Given), Refusal>
+        ensures resumes { IfOk result (λ r. Resumes K.signer (O.services onion.now) channel
+            (working_id (slice_get self.old.links.items channel)) event verdict r
+            (record { links = self.old.links.items; records = self.old.records.items; book = self.old.book })
+            (record { links = self.new.links.items; records = self.new.records.items; book = self.new.book })) }
+        ensures fails { IfErr result (λ r. (r ≡ Refusal.Memory) ⊎ ((r ≡ Refusal.NotReady)
+            × holds_none (O.services onion.now) (working_id (slice_get self.old.links.items channel)) event verdict
+            self.old.book)) }
+        ensures links_stay_if_refused { OnErr result (self.new.links.items ≡ self.old.links.items) }
+        ensures records_stay_if_refused { OnErr result (self.new.records.items ≡ self.old.records.items) }
+        ensures book_stays_if_refused { OnErr result (self.new.book ≡ self.old.book) }
+        ensures numbers_stay { self.new.numbers ≡ self.old.numbers }
+    {
         let Some(id) = self.working_id(channel) else {
             return Err(Refusal::NotReady);
         };
         match self.book.resume(alloc, onion, id, event, verdict) {
             Err(refusal) => Err(refusal),
             Ok(mark) => {
-                let given = self.obey_resumption(alloc, onion, channel, id, event);
+                let due = Due::Resumption(event);
+                let given = self.obey_due(alloc, onion, channel, id, due);
                 Ok((mark, given))
             }
         }

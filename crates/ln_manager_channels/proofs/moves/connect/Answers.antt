@@ -4,4 +4,4 @@ use Rattle.ln_manager_channels.proofs.moves.connect.Goals as goal
 
 pub returns : goal.returns
 unfolding Connects
-returns g c = c.connect.ensures.answers c.args.link.now refl
+returns g c = (c.connect.ensures.answers c.args.link.now refl, c.connect.ensures.same_channel)

@@ -4,4 +4,4 @@ use Rattle.ln_manager_channels.proofs.moves.obey.Goals as goal
 
 pub returns : goal.returns
 unfolding Obeys
-returns g c = c.command.ensures.answers c.args.link.now refl
+returns g c = (c.command.ensures.answers c.args.link.now refl, c.command.ensures.same_channel)
