@@ -210,7 +210,7 @@ static void pay_over(size_t in, size_t out) {
     tell(links + in, &told);
     run(in, out);
     called(links + out, LOOK, zeros, 0, zeros, 0);
-    uint64_t had = number(item + 3 + (item[2] ? 32 : 0) + 33, 8);
+    uint64_t had = number(item + 3 + (item[2] ? 32 : 0) + 34, 8);
     if (had % AMOUNT_MSAT || had == 0) stop("a payment isn't paid once", (int32_t)out);
 }
 
