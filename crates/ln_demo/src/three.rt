@@ -5,7 +5,7 @@ use ln_bytes::{Bytes, ShortId};
 use ln_channel::Command;
 use ln_keys::{ToyKeys, ToyOnion, sha256_32};
 use ln_msgs::channel_id;
-use ln_node::{Node, Table};
+use ln_node::{Greeting, Node, Table};
 use ln_refusals::Refusal;
 use ln_store::MemoryStore;
 use ln_toy_channels::{KEYS, POLICY, SHORT_IDS, TXIDS, fit_config, fit_spec};
@@ -40,9 +40,9 @@ where
     /// Three nodes without channels.
     pub(crate) fn new(alloc: Global) -> Result<Three<H, T, C>, Refusal> {
         Ok(Three {
-            a: Node::new(alloc, ToyOnion, POLICY)?,
-            b: Node::new(alloc, ToyOnion, POLICY)?,
-            c: Node::new(alloc, ToyOnion, POLICY)?,
+            a: Node::new(alloc, ToyOnion, POLICY, Greeting::usual(alloc)?)?,
+            b: Node::new(alloc, ToyOnion, POLICY, Greeting::usual(alloc)?)?,
+            c: Node::new(alloc, ToyOnion, POLICY, Greeting::usual(alloc)?)?,
         })
     }
 

@@ -10,7 +10,7 @@ use ln_keys::{ToyKeys, ToyOnion, sha256_32};
 use ln_log::Limits;
 use ln_msgs::Records;
 use ln_node::{
-    Answer, ChannelState, ChannelSummary, Counters, Decided, Node, Signing, Stored, Table,
+    Answer, ChannelState, ChannelSummary, Counters, Decided, Greeting, Node, Signing, Stored, Table,
 };
 use ln_refusals::Refusal;
 use ln_sqlite::FileRecords;
@@ -189,8 +189,18 @@ where
         Ok(Nodes {
             rt,
             host,
-            payer: Node::new(host.alloc(), ToyOnion, POLICY)?,
-            payee: Node::new(host.alloc(), ToyOnion, POLICY)?,
+            payer: Node::new(
+                host.alloc(),
+                ToyOnion,
+                POLICY,
+                Greeting::usual(host.alloc())?,
+            )?,
+            payee: Node::new(
+                host.alloc(),
+                ToyOnion,
+                POLICY,
+                Greeting::usual(host.alloc())?,
+            )?,
         })
     }
 
@@ -366,7 +376,7 @@ where
         table,
         address,
     })?;
-    Node::restore(rt, alloc, ToyOnion, POLICY, stored)
+    Node::restore(rt, alloc, ToyOnion, POLICY, Greeting::usual(alloc)?, stored)
 }
 
 /// Makes both nodes, with the channel that their stores have or with a new one, and plays. Whether it was there.

@@ -1,5 +1,5 @@
 -- Held HTLCs with their channels' numbers, one more at the end.
-use Rattle.std.proofs.Common.{◌≡◌, ◌++◌, ◌∷◌, [], ℕ, List, Option, refl, sym, ap, ◌∙◌, append-nil}
+use Rattle.std.proofs.Common.{◌≡◌, ◌++◌, ◌∷◌, [], ℕ, List, Option, sym, ap, ◌∙◌, append-nil}
 use Rattle.std.proofs.lemmas.List.{append_assoc}
 use Rattle.ln_book_tables.specs.declared.held.HeldHtlc.{HeldHtlc}
 use Rattle.ln_node.specs.Held.{place_of, with_number, numbered}

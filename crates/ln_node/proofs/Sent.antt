@@ -13,7 +13,8 @@ use Rattle.ln_node.proofs.wakeups.Wakeups.TheSendSync as wakeups
 use Rattle.ln_node.proofs.notices.Notices.TheSendSync as notices
 use Rattle.ln_node.proofs.observer.Observer.TheSendSync as observer
 use Rattle.ln_watch.proofs.watch.Watch.TheSendSync as watch
-use Rattle.ln_node.specs.contracts.book.NodeBook as NodeBook
+use Rattle.ln_node.proofs.peer.Peer.TheSendSync as peer
+use Rattle.ln_node.specs.contracts.node_book.NodeBook as NodeBook
 use Rattle.ln_node.specs.contracts.book.SharedBook as SharedBook
 
 policy_send : IsSend Policy.the_row
@@ -63,7 +64,10 @@ shared_send O o =
                   search (sendable, crosses, observer.the_send, observer.the_sync) depth 9,
                   (
                     search (sendable, crosses, watch.the_send, watch.the_sync) depth 9,
-                    (search sendable depth 9, (search sendable depth 9, tt)),
+                    (
+                      search (sendable, crosses, peer.the_send, peer.the_sync) depth 9,
+                      (search (sendable, crosses) depth 12, (search sendable depth 9, (search sendable depth 9, tt))),
+                    ),
                   ),
                 ),
               ),

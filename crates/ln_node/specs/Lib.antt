@@ -1,6 +1,7 @@
 pub mod Opening
 pub mod Answers
 pub mod Held
+pub mod Greeting
 pub mod Books
 pub mod Stored
 pub mod Node

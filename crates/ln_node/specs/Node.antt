@@ -1,12 +1,13 @@
 -- What a contract sees of a node.
-use Rattle.std.specs.Prelude.{◌≡◌, ◌+◌, ◌++◌, ◌∷◌, [], ℕ, List, length, slice_get, Option, Some, None, is_some}
-use Rattle.std.specs.Prelude.{Bool, true, false}
+use Rattle.std.specs.Prelude.{◌≡◌, ◌++◌, ◌∷◌, [], ℕ, List, length, slice_get, Option, Some, None}
 use Rattle.std.specs.declared.net.socket_addr.SocketAddr.{SocketAddr}
 use Rattle.ln_forward.specs.declared.checks.Policy.{Policy}
 use Rattle.ln_book_tables.specs.declared.entry.Entry.{Entry}
 use Rattle.ln_history.specs.History.{History}
 use Rattle.ln_book_tables.specs.Replay.{Table}
 use Rattle.ln_node.specs.Books.{begun_in}
+use Rattle.std.specs.Arc.{arc_value}
+use Rattle.ln_node.specs.declared.greeting.Greeting.{Greeting}
 use Rattle.ln_node.specs.declared.channel.ChannelThreads.{ChannelThreads}
 use Rattle.ln_node.specs.declared.node.Node.{Node}
 use Rattle.ln_node.specs.declared.signing.Signing.{Signing}
@@ -14,6 +15,10 @@ use Rattle.ln_node.specs.declared.signing.Signing.{Signing}
 -- what it asks for a payment that it forwards
 abbrev pub policy_of : {K S O H T W : Type 0} → Node K S O H T W → Policy
 policy_of n = n.common.policy
+
+-- how it greets its peers, and what it asks of their greeting
+abbrev pub greeting_of : {K S O H T W : Type 0} → Node K S O H T W → Greeting
+greeting_of n = arc_value n.common.greeting
 
 -- its book, as it began
 abbrev pub begun_of : {K S O H T W : Type 0} → Node K S O H T W → History Table Entry

@@ -1,46 +1,32 @@
 //! The book of a node, as the threads of its channels reach it.
 
-ghost use Rattle.std.specs.Prelude.{◌≡◌, [], IfOk};
+ghost use Rattle.std.specs.Prelude.{◌≡◌, ◌++◌, ◌∷◌, [], IfOk};
+ghost use Rattle.ln_node_loops.specs.declared.noted.Noted.TheVariants.{Tells};
 ghost use Rattle.ln_book.specs.Handles.{policy_of};
 ghost use Rattle.ln_node.specs.Waking.{outgoing_channel, incoming_channel, other_channel, latest_other};
 
+use crate::channel::Access;
+use crate::greeting::Greeting;
+use crate::node_book::NodeBook;
 use crate::notices::Notices;
 use crate::observer::{Monitor, Observer};
 use crate::opening::NodeLink;
+use crate::peer::Peer;
 use crate::wakeups::{ChannelWakeup, Wakeups};
-use ln_book::{Book, BookHandle, Use, use_of, waits};
+use ln_book::{BookHandle, Use, use_of, waits};
 use ln_channel::Command;
 use ln_forward::Policy;
+use ln_history::Past;
 use ln_hooks::{ChannelEvent, Verdict};
 use ln_keys::{ChannelKeys, Onion};
 use ln_log::{ChannelId, Mark};
-use ln_node_loops::{Books, Notice, ReadsEnds};
+use ln_msgs::Message;
+use ln_node_loops::{Books, Noted, Notice, ReadsEnds};
 use ln_refusals::Refusal;
 use ln_store::RecordStore;
 use ln_watch::Watch;
 use std::alloc::{AllocError, Global};
-use std::snapshot::Snapshot;
-use std::sync::{Arc, Mutex, Wait};
-
-/// The book of a node, behind its lock.
-#[derive(Drop)]
-pub(crate) struct NodeBook {
-    /// The book.
-    pub(crate) kept: Mutex<Book>,
-    /// The book as it began, for proofs alone.
-    pub(crate) begun: Snapshot<Book>,
-}
-
-impl NodeBook {
-    /// A node's book, which begins so. Takes no memory.
-    pub(crate) fn new(book: Book) -> NodeBook
-        ensures begins_so { result.begun.value ≡ book }
-    {
-        let begun = Snapshot::of(&book);
-        let kept = Mutex::new(book);
-        NodeBook { kept, begun }
-    }
-}
+use std::sync::{Arc, Wait};
 
 /// The book of a node, as one thread of a channel reaches it: its lock is held for one call of the book.
 #[derive(Drop)]
@@ -55,8 +41,11 @@ pub struct SharedBook<O: Drop> {
     notices: Arc<Notices>,
     // What watches the channel.
     observer: Arc<Observer>,
-    // The channel's summary, for who watches the node.
+    // The channel's summary, for who watches the node, and what its peer tells of itself.
     watch: Arc<Watch>,
+    peer: Arc<Peer>,
+    // All that was noted, for proofs alone.
+    noted: Past<(), Noted>,
     // The channel's number.
     number: usize,
     // For summaries.
@@ -72,6 +61,8 @@ pub(crate) struct Common<O: Drop> {
     pub(crate) onion: O,
     /// What it asks for forwarding.
     pub(crate) policy: Policy,
+    /// How it greets its peers.
+    pub(crate) greeting: Arc<Greeting>,
     /// What wakes the workers of its channels.
     pub(crate) wakeups: Arc<Wakeups>,
     /// What has become of its channels.
@@ -131,17 +122,29 @@ fn wake<R: Wait>(rt: &R, own: &ChannelWakeup, wakeups: &Wakeups, other: Option<C
     }
 }
 
+// A notice of a channel, which is noted.
+fn note<R: Wait>(
+    rt: &R,
+    notices: &Notices,
+    channel: usize,
+    noted: &mut Past<(), Noted>,
+    notice: Notice,
+)
+    ensures tells_it { noted.new.told.entries ≡ noted.old.told.entries ++ Tells notice ∷ [] }
+{
+    notices.add(rt, channel, notice);
+    *noted = noted.and(&Noted::Tells(notice));
+}
+
 impl<O: Onion + Copy + Drop> SharedBook<O> {
     ghost use Rattle.ln_book.specs.Handles.{said};
     ghost use Rattle.ln_node.specs.Books.{begun_at, begun_in};
 
-    // The book, for a thread of the channel of the node that has this wake-up; its summary is this, and this watches
-    // it.
-    fn beside(
+    // The book, for a thread of the channel of the node that callers reach so; this watches it.
+    fn beside<W: Drop>(
         alloc: Global,
         common: &Common<O>,
-        own: &Arc<ChannelWakeup>,
-        watch: &Arc<Watch>,
+        access: &Access<W>,
         observer: &Arc<Observer>,
         number: usize,
     ) -> Result<SharedBook<O>, AllocError>
@@ -152,8 +155,9 @@ impl<O: Onion + Copy + Drop> SharedBook<O> {
         let book = Arc::try_clone(&common.book)?;
         let wakeups = Arc::try_clone(&common.wakeups)?;
         let notices = Arc::try_clone(&common.notices)?;
-        let own = Arc::try_clone(own)?;
-        let watch = Arc::try_clone(watch)?;
+        let own = Arc::try_clone(&access.wakeup)?;
+        let watch = Arc::try_clone(&access.watch)?;
+        let peer = Arc::try_clone(&access.peer)?;
         let observer = Arc::try_clone(observer)?;
         Ok(SharedBook {
             book,
@@ -164,18 +168,18 @@ impl<O: Onion + Copy + Drop> SharedBook<O> {
             notices,
             observer,
             watch,
+            peer,
+            noted: Past::begun(&()),
             number,
             alloc,
         })
     }
 
-    /// The book, for the worker and the dispatcher of the channel of the node that has this wake-up; its summary is
-    /// this, and this watches it.
-    pub(crate) fn pair(
+    /// The book, for the worker and the dispatcher of the channel of the node that callers reach so; this watches it.
+    pub(crate) fn pair<W: Drop>(
         alloc: Global,
         common: &Common<O>,
-        own: &Arc<ChannelWakeup>,
-        watch: &Arc<Watch>,
+        access: &Access<W>,
         observer: &Arc<Observer>,
         number: usize,
     ) -> Result<(SharedBook<O>, SharedBook<O>), AllocError>
@@ -185,8 +189,8 @@ impl<O: Onion + Copy + Drop> SharedBook<O> {
             × (policy_of b.1.handle ≡ common.now.policy)) }
         ensures nothing_was_said { IfOk result (λ b. (said b.0.handle ≡ []) × (said b.1.handle ≡ [])) }
     {
-        let first = SharedBook::beside(alloc, common, own, watch, observer, number)?;
-        let second = SharedBook::beside(alloc, common, own, watch, observer, number)?;
+        let first = SharedBook::beside(alloc, common, access, observer, number)?;
+        let second = SharedBook::beside(alloc, common, access, observer, number)?;
         Ok((first, second))
     }
 
@@ -206,6 +210,8 @@ impl<O: Onion + Copy + Drop> Books for SharedBook<O> {
     ghost use Rattle.ln_book.specs.Handles as handles;
 
     ghost said = { λ b. handles.said b.handle };
+
+    ghost noted = { λ b. b.noted.told.entries };
 
     fn take<R: Wait>(&mut self, rt: &R, alloc: Global, channel: ChannelId) -> Option<Command> {
         let mut book = self.book.kept.lock(rt);
@@ -256,8 +262,14 @@ impl<O: Onion + Copy + Drop> Books for SharedBook<O> {
         match decided {
             Ok(mark) => {
                 self.observer.decide(&mark);
-                if let Mark::Held(held) = mark {
-                    self.notices.add(rt, self.number, Notice::Held(held));
+                if let Mark::Held(_) = mark {
+                    note(
+                        rt,
+                        &self.notices,
+                        self.number,
+                        &mut self.noted,
+                        Notice::Held(number),
+                    );
                 }
                 self.own.wakeup.ring();
                 Ok(())
@@ -276,6 +288,7 @@ impl<O: Onion + Copy + Drop> SharedBook<O> {
     fn notify_use<R: Wait>(&mut self, rt: &R, used: Use) -> Result<(), Refusal>
         ensures says_the_use { OnOk result (said self.new.handle ≡ said self.old.handle ++ uses used ∷ []) }
         ensures says_nothing_if_refused { OnErr result (said self.new.handle ≡ said self.old.handle) }
+        ensures notes_nothing { self.new.noted ≡ self.old.noted }
     {
         if !self.handle.is_news(used) {
             self.handle.still(used);
@@ -329,7 +342,14 @@ where
 
     fn notice<R: Wait>(&mut self, rt: &R, notice: Notice) {
         self.observer.flush(rt, self.alloc);
-        self.notices.add(rt, self.number, notice);
+        note(rt, &self.notices, self.number, &mut self.noted, notice);
+    }
+
+    fn met<R: Wait>(&mut self, rt: &R, init: Message) {
+        let noted = Noted::Meets(init);
+        self.noted = self.noted.and(&noted);
+        self.peer.meet(rt, noted.into_init());
+        self.notices.add(rt, self.number, Notice::Met);
     }
 
     fn sounds(&self) -> u64 {

@@ -1,10 +1,15 @@
 //! What a node has of a channel: its threads, and the seats that callers use.
 
 ghost use Rattle.std.specs.Prelude.{◌≡◌, ◌++◌, ◌∷◌, [], IfOk, IfErr, OnOk, OnErr};
+ghost use Rattle.ln_relay.specs.Position.{AreSeatsOfOne};
+ghost use Rattle.ln_relay.specs.Seats as seats;
+ghost use Rattle.ln_relay.specs.WaitSeats as waiting;
 ghost use Rattle.ln_node_loops.specs.declared.item.Item.TheVariants as item;
 ghost use Rattle.ln_node_loops.specs.declared.task.Task.TheVariants as task;
 
 use crate::asking::{OrderAnswers, OrderReplies};
+use crate::greeting::Greeting;
+use crate::peer::Peer;
 use crate::reader::Connections;
 use crate::seat::{PatientSeat, WakingSeat};
 use crate::signing::Signing;
@@ -14,7 +19,6 @@ use crate::wakeup::Wakeup;
 use crate::wakeups::ChannelWakeup;
 use ln_channel::Command;
 use ln_log::ChannelId;
-use ln_msgs::Message;
 use ln_node_loops::{Item, ReadsEnds, Table, Task, Worker, WorkerLoop, put};
 use ln_relay::{RecvSeat, SendSeat, Sends, WaitRecv, WaitSend, relay, waiting_relay};
 use ln_watch::Watch;
@@ -59,13 +63,15 @@ pub(crate) struct Access<W: Drop> {
     pub(crate) connections: Arc<Connections<W>>,
     /// Its summary.
     pub(crate) watch: Arc<Watch>,
+    /// What its peer tells of itself.
+    pub(crate) peer: Arc<Peer>,
 }
 
 /// What a new channel has of its node.
 #[derive(Drop)]
 pub(crate) struct Shares<B: Drop, W: Drop> {
-    /// The init that greets its peer.
-    pub(crate) own_init: Box<Message>,
+    /// How its peer is greeted.
+    pub(crate) greeting: Arc<Greeting>,
     /// The node's book, as its worker reaches it.
     pub(crate) book: B,
     /// And as its dispatcher does.
@@ -211,6 +217,11 @@ where
         &self.access.watch
     }
 
+    /// What its peer tells of itself.
+    pub(crate) fn peer(&self) -> &Peer {
+        &self.access.peer
+    }
+
     /// Where it listens.
     pub(crate) fn bound(&self) -> Option<SocketAddr>
         ensures { result ≡ self.now.bound }
@@ -269,7 +280,15 @@ struct Seats<H: Drop, W: Drop> {
 fn new_seats<H: Drop, W: Drop>(
     alloc: Global,
     wakeup: &Arc<ChannelWakeup>,
-) -> Result<Seats<H, W>, AllocError> {
+) -> Result<Seats<H, W>, AllocError>
+    ensures of_one_worker { IfOk result (λ s. AreSeatsOfOne (seats.sender_position s.first.seat.seat)
+        (seats.sender_position s.orders.seat) (seats.receiver_position s.items)) }
+    ensures of_one_dispatcher { IfOk result (λ s. AreSeatsOfOne (waiting.sender_position s.events)
+        (waiting.sender_position s.hooks) (waiting.receiver_position s.tasks)) }
+    ensures nothing_was_put { IfOk result (λ s. (seats.put s.first.seat.seat ≡ []) × (seats.put s.orders.seat ≡ [])
+        × (waiting.put s.events ≡ []) × (waiting.put s.hooks ≡ [])) }
+    ensures nothing_was_taken { IfOk result (λ s. (seats.taken s.items ≡ []) × (waiting.taken s.tasks ≡ [])) }
+{
     let (readers, ours) = (Arc::try_clone(wakeup)?, Arc::try_clone(wakeup)?);
     let (events, hooks, tasks) = waiting_relay::<Task<H>>(alloc, TASKS)?;
     let (first, orders, items) = relay::<Item<Socket<W>>>(alloc, ITEMS)?;
@@ -327,7 +346,7 @@ where
         bound,
     } = parts;
     let Shares {
-        own_init,
+        greeting,
         book,
         decisions,
         replies,
@@ -360,7 +379,7 @@ where
         B,
         OrderReplies,
         R,
-    >(rt, alloc, own_init, work) else {
+    >(rt, alloc, greeting, work) else {
         stop_dispatcher(&rt, hooks, dispatcher);
         return Err(AllocError);
     };

@@ -6,17 +6,20 @@ ghost use Rattle.ln_refusals.specs.declared.refusal.Refusal.TheVariants as refus
 ghost use Rattle.ln_node.specs.Node.{HasOneMore};
 
 use crate::asking::{OrderAnswers, OrderReplies};
-use crate::book::{Common, NodeBook, SharedBook};
+use crate::book::{Common, SharedBook};
 use crate::channel::{Access, ChannelThreads, Parts, Shares, start};
+use crate::greeting::Greeting;
 use crate::held::numbered;
+use crate::node_book::NodeBook;
 use crate::notices::Notices;
 use crate::observed::ObservedStore;
 use crate::observer::{Monitor, Observer};
 use crate::opening::NodeLink;
+use crate::peer::Peer;
 use crate::reader::Connections;
 use crate::signing::Signing;
 use crate::start::Stores;
-use crate::stored::{Loaded, Stored, load_all, rebuilt_book};
+use crate::stored::{Loaded, Stored, book_of, load_all};
 use crate::wakeups::{ChannelWakeup, Wakeups};
 use ln_book::Book;
 use ln_book_tables::HeldHtlc;
@@ -26,7 +29,6 @@ use ln_forward::Policy;
 use ln_hooks::Verdict;
 use ln_keys::{ChannelKeys, Onion};
 use ln_log::{ChannelId, Mark};
-use ln_msgs::{Init, Message, Records};
 use ln_node_loops::{Notice, ReadsEnds, Table};
 use ln_refusals::Refusal;
 use ln_store::RecordStore;
@@ -78,16 +80,6 @@ impl<K: ChannelKeys + Copy, S: Drop, O: Drop, H: Drop, T: Drop, W: Drop> Drop
     fn drop(self) {
         drop(self.into_channels());
     }
-}
-
-// The init that greets peers (BOLT 1, "The `init` Message"): no features.
-fn own_init(alloc: Global) -> Result<Box<Message>, AllocError> {
-    let init = Init {
-        global_features: Bytes::new(Vec::new(alloc)),
-        features: Bytes::new(Vec::new(alloc)),
-        records: Records::new(Vec::new(alloc)),
-    };
-    Ok(Box::new(alloc, Message::Init(init))?)
 }
 
 // Appends a value. False where there is no memory.
@@ -206,18 +198,30 @@ where
     ghost use Rattle.ln_channel.specs.declared.command.Command.TheVariants as command;
     ghost use Rattle.ln_book.specs.Handles as handles;
     ghost use Rattle.ln_node.specs.Books.{begun_at};
-    ghost use Rattle.ln_node.specs.Node.{policy_of, begun_of, channel_count, address_of, HasOneMore};
+    ghost use Rattle.ln_node.specs.Node.{policy_of, greeting_of, begun_of, channel_count, address_of, HasOneMore};
+    ghost use Rattle.std.specs.Arc.{arc_value};
     ghost use Rattle.ln_node.specs.Stored.{BeginsWithAll};
+    ghost use Rattle.ln_history.specs.History.{begun_with};
+    ghost use Rattle.ln_book_tables.specs.Replay.{no_table};
 
-    /// A node without channels: it opens onions by this service, and forwards by this policy. Takes memory.
+    /// A node without channels: it opens onions by this service, forwards by this policy, and greets its peers so.
+    /// Takes memory.
     ///
     /// Error: 60 where there is no memory.
-    pub fn new(alloc: Global, onion: O, policy: Policy) -> Result<Node<K, S, O, H, T, W>, Refusal>
+    pub fn new(
+        alloc: Global,
+        onion: O,
+        policy: Policy,
+        greeting: Greeting,
+    ) -> Result<Node<K, S, O, H, T, W>, Refusal>
         ensures asks_by_the_policy { IfOk result (λ n. policy_of n ≡ policy) }
+        ensures greets_so { IfOk result (λ n. greeting_of n ≡ greeting) }
+        ensures begins_with_an_empty_book { IfOk result (λ n. begun_of n ≡ begun_with no_table) }
         ensures has_no_channel { IfOk result (λ n. channel_count n ≡ 0) }
     {
         let monitor = Monitor::new(alloc)?;
-        Node::with_book(alloc, onion, policy, Book::new(alloc), monitor)
+        let book = NodeBook::new(alloc, &[])?;
+        Node::with_book(alloc, onion, policy, greeting, book, monitor)
     }
 
     // A node without channels, whose book is this one, and which is watched here. 60 where there is no memory.
@@ -225,22 +229,26 @@ where
         alloc: Global,
         onion: O,
         policy: Policy,
-        book: Book,
+        greeting: Greeting,
+        book: NodeBook,
         monitor: Arc<Monitor>,
     ) -> Result<Node<K, S, O, H, T, W>, Refusal>
         ensures asks_by_the_policy { IfOk result (λ n. policy_of n ≡ policy) }
-        ensures begins_with_the_book { IfOk result (λ n. begun_of n ≡ book) }
+        ensures greets_so { IfOk result (λ n. greeting_of n ≡ greeting) }
+        ensures begins_with_the_book { IfOk result (λ n. begun_of n ≡ book.begun.value) }
         ensures has_no_channel { IfOk result (λ n. channel_count n ≡ 0) }
     {
-        let book = Arc::new(alloc, NodeBook::new(book))?;
+        let book = Arc::new(alloc, book)?;
         let notices = Notices::new(alloc, Arc::try_clone(&monitor)?)?;
         let notices = Arc::new(alloc, notices)?;
         let wakeups = Arc::new(alloc, Wakeups::new(alloc))?;
         let stopping = Arc::new(alloc, AtomicU64::new(0))?;
+        let greeting = Arc::new(alloc, greeting)?;
         let common = Common {
             book,
             onion,
             policy,
+            greeting,
             wakeups,
             notices,
             monitor,
@@ -303,34 +311,30 @@ where
             × (handles.policy_of s.decisions.handle ≡ policy_of self.now)) }
         ensures nothing_was_said { IfOk result (λ s. (handles.said s.book.handle ≡ [])
             × (handles.said s.decisions.handle ≡ [])) }
+        ensures greets_so { IfOk result (λ s. arc_value s.greeting ≡ greeting_of self.now) }
     {
-        let own_init = own_init(alloc)?;
         self.common.wakeups.reserve(rt, self.channels.len())?;
         let wakeup = Arc::new(alloc, ChannelWakeup::new())?;
         let connections = self.connections(alloc)?;
         let watch = Arc::new(alloc, Watch::new(alloc, end.saved.link.channel_machine()))?;
         let answers = Arc::new(alloc, OrderAnswers::new(self.signing))?;
         let replies = self.replies(Arc::try_clone(&answers)?)?;
+        let access = Access {
+            wakeup,
+            answers,
+            connections,
+            watch,
+            peer: Arc::new(alloc, Peer::new())?,
+        };
         let number = self.channels.len();
-        let (book, decisions) = SharedBook::pair(
-            alloc,
-            &self.common,
-            &wakeup,
-            &watch,
-            &end.saved.store.observer,
-            number,
-        )?;
+        let observer = &end.saved.store.observer;
+        let (book, decisions) = SharedBook::pair(alloc, &self.common, &access, observer, number)?;
         Ok(Shares {
-            own_init,
+            greeting: Arc::try_clone(&self.common.greeting)?,
             decisions,
             book,
             replies,
-            access: Access {
-                wakeup,
-                answers,
-                connections,
-                watch,
-            },
+            access,
         })
     }
 
@@ -521,20 +525,22 @@ where
         alloc: Global,
         onion: O,
         policy: Policy,
+        greeting: Greeting,
         stored: Vec<Stored<K, S, T>>,
     ) -> Result<Node<K, S, O, H, T, W>, Refusal>
     where
         R: Net<Stream = W> + Threads + Wait + Copy + Send + 'static,
         R::Listener: Send + 'static,
         ensures asks_by_the_policy { IfOk result (λ n. policy_of n ≡ policy) }
+        ensures greets_so { IfOk result (λ n. greeting_of n ≡ greeting) }
         ensures begins_with_all_channels { IfOk result (λ n. BeginsWithAll S.records stored.items (begun_of n)) }
         ensures has_all_channels { IfOk result (λ n. channel_count n ≡ length stored.items) }
     {
         let monitor = Monitor::new(alloc)?;
         let loaded = load_all(alloc, &monitor, stored)?;
-        let book = rebuilt_book(alloc, loaded.as_slice())?;
+        let book = book_of(alloc, loaded.as_slice())?;
         let mut node: Node<K, S, O, H, T, W> = Node::with_book(
-            alloc, onion, policy, book, monitor,
+            alloc, onion, policy, greeting, book, monitor,
         )?;
         match node.start_all(rt, alloc, loaded) {
             Ok(()) => Ok(node),

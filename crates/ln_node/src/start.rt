@@ -3,9 +3,9 @@
 
 ghost use Rattle.std.specs.Prelude.{◌≡◌};
 
+use crate::greeting::Greeting;
 use crate::reader::Connections;
 use crate::socket::Socket;
-use ln_msgs::Message;
 use ln_node_loops::{
     Books, Closes, End, Item, Orders, ReadsEnds, Table, Task, WorkerLoop, dispatch_loop,
     worker_loop,
@@ -91,7 +91,7 @@ where
 pub(crate) fn start_worker<E, W, I, H, T, B, A, R>(
     rt: R,
     alloc: Global,
-    own_init: Box<Message>,
+    greeting: Arc<Greeting>,
     work: WorkerLoop<E, W, I, T, B, A>,
 ) -> Option<JoinHandle<E::Store>>
 where
@@ -105,10 +105,16 @@ where
     A: Orders + Drop + Send + 'static,
     R: Threads + Wait + Copy + Send + 'static,
 {
-    thread::spawn(
-        &rt,
-        move || store_of(worker_loop::<E, W, I, H, T, B, A, R>(&rt, alloc, &own_init, &[], work)),
-    )
+    thread::spawn(&rt, move || {
+        let done = worker_loop::<E, W, I, H, T, B, A, R>(
+            &rt,
+            alloc,
+            &greeting.own,
+            &greeting.peer,
+            work,
+        );
+        store_of(done)
+    })
     .ok()
 }
 

@@ -6,10 +6,11 @@ ghost use Rattle.ln_book_tables.specs.Replay.{no_table};
 ghost use Rattle.ln_book.specs.Rebuild.{rebuilt};
 ghost use Rattle.ln_node.specs.Stored.{first_record, ComesFrom, IsLoaded, AreLoaded, channel_snapshots_of};
 
+use crate::node_book::NodeBook;
 use crate::observed::ObservedStore;
 use crate::observer::{Monitor, Observer};
 use crate::opening::NodeLink;
-use ln_book::{Book, ChannelSnapshot, read_end};
+use ln_book::{ChannelSnapshot, read_end};
 use ln_bytes::Bytes;
 use ln_keys::ChannelKeys;
 use ln_link::Link;
@@ -157,17 +158,14 @@ fn snapshots<K: ChannelKeys + Copy, S: Drop, T: Drop>(
     Ok(snapshots)
 }
 
-/// A book that begins with what its node's channels have of payments. Takes memory.
-pub(crate) fn rebuilt_book<K: ChannelKeys + Copy, S: Drop, T: Drop>(
+/// The book of a node that has these channels. Takes memory. Error: 60 alone.
+pub(crate) fn book_of<K: ChannelKeys + Copy, S: Drop, T: Drop>(
     alloc: Global,
     loaded: &[Loaded<K, S, T>],
-) -> Result<Book, Refusal>
-    ensures begins_with_all { IfOk result (λ b. b ≡ begun_with (rebuilt no_table (channel_snapshots_of loaded.now))) }
+) -> Result<NodeBook, Refusal>
+    ensures begins_with_all { IfOk result (λ b. b.begun.value
+        ≡ begun_with (rebuilt no_table (channel_snapshots_of loaded.now))) }
 {
     let snapshots = snapshots(alloc, loaded)?;
-    let mut book = Book::new(alloc);
-    match book.rebuild(alloc, snapshots.as_slice()) {
-        Ok(()) => Ok(book),
-        Err(refusal) => Err(refusal),
-    }
+    NodeBook::new(alloc, snapshots.as_slice())
 }

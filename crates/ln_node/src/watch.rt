@@ -3,6 +3,7 @@
 use crate::node::Node;
 use crate::trace::Trace;
 use ln_keys::{ChannelKeys, Onion};
+use ln_msgs::Init;
 use ln_node_loops::Table;
 use ln_refusals::Refusal;
 use ln_store::RecordStore;
@@ -57,6 +58,25 @@ where
             all.push(channel.watch().summary(rt)?)?;
         }
         Ok(all)
+    }
+
+    /// The init by which the peer of a channel has greeted last, as it came: what it offers. None before it has. A node
+    /// refuses a peer by it where its `Greeting` wants what the peer lacks, and its user by `hang_up`. Takes memory.
+    ///
+    /// Errors: 40 where there is no such channel; 60.
+    pub fn peer_init<R: Wait>(
+        &self,
+        rt: &R,
+        alloc: Global,
+        channel: usize,
+    ) -> Result<Option<Init>, Refusal>
+        ensures refuses_where_there_is_none { channel_count self.now ≤ channel → result ≡ Err refusal.NotReady }
+        ensures fails_for_memory_alone { channel < channel_count self.now → IfErr result (λ e. e ≡ refusal.Memory) }
+    {
+        let Some(channel) = self.channels.get(channel) else {
+            return Err(Refusal::NotReady);
+        };
+        Ok(channel.peer().init(rt, alloc)?)
     }
 
     /// How often it has done what since it was made. Takes no memory.

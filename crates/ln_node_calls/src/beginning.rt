@@ -4,7 +4,7 @@ use crate::node::ToyNode;
 use crate::row::{Row, end_of, gauge_of};
 use ln_channel::{FitConfig, FitSpec};
 use ln_keys::{ToyKeys, ToyOnion};
-use ln_node::{Node, Stored};
+use ln_node::{Greeting, Node, Stored};
 use ln_refusals::Refusal;
 use ln_tests_ends::{
     A0, B0, B1, C0, ENDS, End, FailingRecords, Gauge, Gauged, OpenProxy, Watch, loopback,
@@ -85,9 +85,18 @@ where
         node.book().lock(&self.rt).set_height(100);
     }
 
+    // How nodes greet: as usual, and their peers have to offer what a line has named.
+    fn greeting(&self) -> Result<Greeting, Refusal> {
+        let mut greeting = Greeting::usual(self.alloc)?;
+        if self.wanted != 0 {
+            greeting.want(self.wanted)?;
+        }
+        Ok(greeting)
+    }
+
     // A new node.
     fn begin(&mut self) -> Result<(), Refusal> {
-        let mut node: ToyNode = Node::new(self.alloc, ToyOnion, POLICY)?;
+        let mut node: ToyNode = Node::new(self.alloc, ToyOnion, POLICY, self.greeting()?)?;
         self.set(&mut node);
         self.nodes.push(node)?;
         Ok(())
@@ -156,10 +165,13 @@ where
         if node >= self.nodes.len() {
             return Err(Refusal::NotReady);
         }
+        let greeting = self.greeting()?;
         let old = self.nodes.remove(node);
         let stores = old.into_stores(self.rt, self.alloc)?;
         let stored = all_stored(self.alloc, node, self.gauges.as_slice(), stores)?;
-        let mut new: ToyNode = Node::restore(self.rt, self.alloc, ToyOnion, POLICY, stored)?;
+        let mut new: ToyNode = Node::restore(
+            self.rt, self.alloc, ToyOnion, POLICY, greeting, stored,
+        )?;
         self.set(&mut new);
         self.put(node, new)?;
         self.lead(node);

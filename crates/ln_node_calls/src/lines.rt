@@ -128,6 +128,7 @@ where
                 self.gauge(end)?.says.store(says, Ordering::SeqCst);
                 Ok(())
             }
+            "offers" => self.offers(end, small(how)?),
             "resume" => self.resume(end, number(how)?),
             "fee" => {
                 let rate = small(how)?;
@@ -223,6 +224,10 @@ where
                 for _ in 0..number(word)? {
                     self.look();
                 }
+                Ok(())
+            }
+            "wants" => {
+                self.wanted = small(word)?;
                 Ok(())
             }
             "signing" => {

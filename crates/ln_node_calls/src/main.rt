@@ -6,6 +6,7 @@
 //! | Line | What comes about |
 //! |---|---|
 //! | `listen N` | new nodes, of which B and C listen: C takes N HTLCs at once |
+//! | `wants N`, `offers E N` | new nodes want feature N of their peers, or none by 0; the peer of E has offered it |
 //! | `meet`, `confirm` | A opens a channel with B, and B one with C; both are confirmed, and all ends take payments |
 //! | `open` | both of these |
 //! | `pay A N`, `pay C N` | A offers C, or C offers A, payment N, for which the payee waits |

@@ -3,7 +3,9 @@
 use ln_channel::Command;
 use ln_hooks::Verdict;
 use ln_keys::{ToyKeys, ToyOnion};
-use ln_node::{Answer, ChannelSummary, Counters, HeldHtlc, Node, Notice, Signing, Ticket, Trace};
+use ln_node::{
+    Answer, ChannelSummary, Counters, HeldHtlc, Node, Notice, Signing, Ticket, Trace, offers,
+};
 use ln_refusals::Refusal;
 use ln_tests_ends::{AMOUNT, FailingRecords, NoHook, SECRET, Watch, preimage};
 use std::alloc::Global;
@@ -57,6 +59,9 @@ pub trait Driven {
     fn channels<R: Wait>(&self, rt: &R, alloc: Global) -> Result<usize, Refusal>;
 
     fn counters(&self) -> &Counters;
+
+    /// Whether the peer of a channel has greeted by an init that offers this feature.
+    fn peer_offers<R: Wait>(&self, rt: &R, alloc: Global, channel: usize, feature: u16) -> bool;
 
     fn set_signing(&mut self, signing: Signing);
 
@@ -148,6 +153,13 @@ impl Driven for ToyNode {
 
     fn counters(&self) -> &Counters {
         self.counters()
+    }
+
+    fn peer_offers<R: Wait>(&self, rt: &R, alloc: Global, channel: usize, feature: u16) -> bool {
+        match self.peer_init(rt, alloc, channel) {
+            Ok(Some(init)) => offers(&init, feature),
+            _ => false,
+        }
     }
 
     fn set_signing(&mut self, signing: Signing) {

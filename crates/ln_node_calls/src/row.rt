@@ -33,6 +33,8 @@ pub struct Row<N: Drop, R: Drop> {
     pub gate: Arc<Mutex<()>>,
     /// When all nodes sign.
     pub signing: Signing,
+    /// Which feature new nodes want of their peers, or 0.
+    pub wanted: u16,
 }
 
 fn let_go<T: Drop>(_value: T) {}
@@ -70,6 +72,7 @@ where
             gauges: Vec::new(alloc),
             gate: Arc::new(alloc, Mutex::new(()))?,
             signing: Signing::WhenOrdered,
+            wanted: 0,
         })
     }
 
@@ -315,6 +318,16 @@ where
     }
 
     // ---- what a line has them do
+
+    /// The peer of an end has greeted by an init that offers this feature. 65 where it hasn't.
+    pub fn offers(&self, end: End, feature: u16) -> Result<(), Refusal> {
+        let node = self.node(end)?;
+        if node.peer_offers(&self.rt, self.alloc, end.channel, feature) {
+            Ok(())
+        } else {
+            Err(Refusal::GaveUp)
+        }
+    }
 
     /// The payee waits for a payment.
     pub fn expect(&self, payee: End, number: u64) -> Result<(), Refusal> {

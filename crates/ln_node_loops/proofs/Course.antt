@@ -8,6 +8,7 @@ use Rattle.ln_refusals.specs.declared.refusal.Refusal.{Refusal}
 use Rattle.ln_channel.specs.declared.output.Output.{Output}
 use Rattle.ln_book.specs.declared.switch.saying.Saying.{Saying}
 use Rattle.ln_book.specs.Seen.{Seen}
+use Rattle.ln_node_loops.specs.declared.features.PeerFeatures.{PeerFeatures}
 use Rattle.ln_node_loops.specs.declared.task.Task.{Task}
 use Rattle.ln_node_loops.specs.declared.task.Task.TheVariants as task
 use Rattle.ln_node_loops.specs.Act.{Act}
@@ -158,14 +159,14 @@ all-put event first last next (t ∷ ts) end at tells =
 -- what turns tell of is that of one after the other
 pub told-joined : {S W : Type 0} (acts : S → Act → Result (List Output) Refusal → S → Type 0) (halted : S → Bool)
     (pending : S → List (ℕ × ChannelEvent)) (owes : S → Bool) (seen : S → Option Seen) (contents : W → Option (List ℕ))
-    (own_init : Message) (known : List ℕ) (b : Bool) (s : Stand S) (ts : List (Turn W)) (ws : List Saying)
-    (ns : List News) (s' : Stand S) → Leads acts halted pending owes seen contents own_init known b s ts ws ns s'
+    (own_init : Message) (peer : PeerFeatures) (b : Bool) (s : Stand S) (ts : List (Turn W)) (ws : List Saying)
+    (ns : List News) (s' : Stand S) → Leads acts halted pending owes seen contents own_init peer b s ts ws ns s'
     → told_in ns ≡ joined (map told ts)
-told-joined acts halted pending owes seen contents own_init known b s [] ws ns s' l = ap told_in l.2
-told-joined acts halted pending owes seen contents own_init known b s (t ∷ ts) ws ns s' l =
+told-joined acts halted pending owes seen contents own_init peer b s [] ws ns s' l = ap told_in l.2
+told-joined acts halted pending owes seen contents own_init peer b s (t ∷ ts) ws ns s' l =
     ap told_in l.6
     ∙ ap (λ es. told t ++ es)
-    (told-joined acts halted pending owes seen contents own_init known _ l.0 ts l.1 l.2 s' l.7)
+    (told-joined acts halted pending owes seen contents own_init peer _ l.0 ts l.1 l.2 s' l.7)
 
 -- ---- the tasks of events
 
@@ -184,7 +185,7 @@ are-append (task.Stop ∷ ts) us es fs one two = elim one [ ]
 pub news-are : (H : Type 0) (last : Option ℕ) (ns : List News)
     → AreEvents (tasks_of {H = H} last ns) (fresh last (told_in ns))
 news-are H last [] = refl
-news-are H last ((c, es, rs) ∷ ns) =
-    subst (AreEvents (tasks_of {H = H} last ((c, es, rs) ∷ ns))) (sym (fresh-append last es (told_in ns)))
+news-are H last ((c, es, rs, qs) ∷ ns) =
+    subst (AreEvents (tasks_of {H = H} last ((c, es, rs, qs) ∷ ns))) (sym (fresh-append last es (told_in ns)))
     (are-append (tasks c (fresh last es)) (tasks_of (last_of last es) ns) (fresh last es)
     (fresh (last_of last es) (told_in ns)) (tasks-are H c (fresh last es)) (news-are H (last_of last es) ns))

@@ -7,6 +7,7 @@ use Rattle.ln_hooks.specs.declared.event.ChannelEvent.{ChannelEvent}
 use Rattle.ln_channel.specs.declared.output.Output.{Output}
 use Rattle.ln_book.specs.declared.switch.saying.Saying.{Saying}
 use Rattle.ln_book.specs.Seen.{Seen}
+use Rattle.ln_node_loops.specs.declared.features.PeerFeatures.{PeerFeatures}
 use Rattle.ln_node_loops.specs.declared.item.Item.{Item}
 use Rattle.ln_node_loops.specs.declared.item.Item.TheVariants as item
 use Rattle.ln_node_loops.specs.declared.worker.Phase.{Phase}
@@ -29,13 +30,13 @@ begun_cut item.Broken p none is = refl
 begun_cut (item.Order c) p none is = is
 begun_cut item.Stop p none is = is
 
-passed_cut : {W : Type 0} (known : List ℕ) (i : Item W) (p p' : Phase) → p ≡ Unconnected → PassesOver known p i p'
+passed_cut : {W : Type 0} (peer : PeerFeatures) (i : Item W) (p p' : Phase) → p ≡ Unconnected → PassesOver peer p i p'
     → p' ≡ Unconnected
-passed_cut known (item.Joined w) p p' is over = over ∙ is
-passed_cut known (item.Read m) p p' is over = subst (λ q. Hears known q m p') is over
-passed_cut known item.Broken p p' is over = over ∙ is
-passed_cut known (item.Order c) p p' is over = over.1 ∙ is
-passed_cut known item.Stop p p' is over = over ∙ is
+passed_cut peer (item.Joined w) p p' is over = over ∙ is
+passed_cut peer (item.Read m) p p' is over = subst (λ q. Hears peer q m p') is over
+passed_cut peer item.Broken p p' is over = over ∙ is
+passed_cut peer (item.Order c) p p' is over = over.1 ∙ is
+passed_cut peer item.Stop p p' is over = over ∙ is
 
 cut_off : {S : Type 0} (s : Stand S) (p : Phase) (connection : Option Connection) → p ≡ Unconnected → s.phase ≡ p
     → s.connection ≡ kept_connection s.phase connection → IsCutOff s
@@ -64,10 +65,10 @@ joins_rest (Rests allowed) ts none = none
 
 module _ {S W : Type 0} (acts : S → Act → Result (List Output) Refusal → S → Type 0) (halted : S → Bool)
     (pending : S → List (ℕ × ChannelEvent)) (owes : S → Bool) (contents : W → Option (List ℕ)) (own_init : Message)
-    (known : List ℕ) where
+    (peer : PeerFeatures) where
   -- a turn that cuts it off
   pub is_cut : (s : Stand S) (t : Turn W) (s' : Stand S) → cuts_off t ≡ true
-      → Step acts halted pending owes contents own_init known s t s' → IsCutOff s'
+      → Step acts halted pending owes contents own_init peer s t s' → IsCutOff s'
   is_cut s (Serves i os a) s' cuts step =
       cut_off s' (unless_over (is_over i a || halted s'.end) (begun s.phase i)) step.1
       (ap (λ b. unless_over (b || halted s'.end) (begun s.phase i)) cuts) step.3.0 step.3.1
@@ -81,12 +82,12 @@ module _ {S W : Type 0} (acts : S → Act → Result (List Output) Refusal → S
 
   -- a turn after it was
   still_cut : (s : Stand S) (t : Turn W) (s' : Stand S) → JoinNone (items_of (t ∷ [])) → IsCutOff s
-      → Step acts halted pending owes contents own_init known s t s' → IsCutOff s'
+      → Step acts halted pending owes contents own_init peer s t s' → IsCutOff s'
   still_cut s (Serves i os a) s' none is step =
       cut_off s' (unless_over (is_over i a || halted s'.end) (begun s.phase i)) step.1
       (stays_over (is_over i a || halted s'.end) (begun s.phase i) (begun_cut i s.phase none.0 is.0)) step.3.0 step.3.1
   still_cut s (Passes i) s' none is step =
-      cut_off s' s'.phase s.connection (passed_cut known i s.phase s'.phase is.0 step.2) refl step.3
+      cut_off s' s'.phase s.connection (passed_cut peer i s.phase s'.phase is.0 step.2) refl step.3
   still_cut s (Obeys by c os a w) s' none is step =
       cut_off s' (unless_over (is_lost w || halted s'.end) s.phase) step.1
       (stays_over (is_lost w || halted s'.end) s.phase is.0) step.3.0 step.3.1
@@ -96,12 +97,12 @@ module _ {S W : Type 0} (acts : S → Act → Result (List Output) Refusal → S
 
 module _ {S W : Type 0} (acts : S → Act → Result (List Output) Refusal → S → Type 0) (halted : S → Bool)
     (pending : S → List (ℕ × ChannelEvent)) (owes : S → Bool) (seen : S → Option Seen) (contents : W → Option (List ℕ))
-    (own_init : Message) (known : List ℕ) where
+    (own_init : Message) (peer : PeerFeatures) where
   pub stays_cut : (tried : Bool) (s : Stand S) (ts : List (Turn W)) (words : List Saying) (news : List News)
       (s' : Stand S) → JoinNone (items_of ts) → IsCutOff s
-      → Leads acts halted pending owes seen contents own_init known tried s ts words news s' → IsCutOff s'
+      → Leads acts halted pending owes seen contents own_init peer tried s ts words news s' → IsCutOff s'
   stays_cut tried s [] words news s' none is same = subst IsCutOff (sym same.0) is
   stays_cut tried s (t ∷ ts) words news s' none is leads =
       stays_cut (is_load t) leads.0 ts leads.1 leads.2 s' (joins_rest t ts none)
-      (still_cut acts halted pending owes contents own_init known s t leads.0 (joins_first t ts none) is leads.3)
+      (still_cut acts halted pending owes contents own_init peer s t leads.0 (joins_first t ts none) is leads.3)
       leads.7

@@ -1,8 +1,9 @@
 -- What turns owe the book.
-use Rattle.std.proofs.Common.{◌≡◌, ◌++◌, ◌∷◌, [], ℕ, List, Bool, true, false, Option, Some, None, Result}
+use Rattle.std.proofs.Common.{◌≡◌, ◌++◌, ◌∷◌, [], ℕ, List, Bool, true, false, Option, Some, None, Result, Ok}
 use Rattle.std.proofs.Common.{refl, sym, ap, ◌∙◌}
 use Rattle.std.proofs.lemmas.List.{append_assoc}
 use Rattle.std.specs.Prelude.{not, ◌&&◌}
+use Rattle.ln_msgs.specs.declared.messages.message.Message.{Message}
 use Rattle.ln_refusals.specs.declared.refusal.Refusal.{Refusal}
 use Rattle.ln_hooks.specs.declared.event.ChannelEvent.{ChannelEvent}
 use Rattle.ln_channel.specs.declared.command.Command.{Command}
@@ -13,11 +14,12 @@ use Rattle.ln_book.specs.Seen.{Seen, channel_of, next_htlc}
 use Rattle.ln_node_loops.specs.declared.item.Item.{Item}
 use Rattle.ln_node_loops.specs.declared.item.Item.TheVariants as item
 use Rattle.ln_node_loops.specs.declared.worker.Phase.{Phase}
-use Rattle.ln_node_loops.specs.Phase.{is_served}
+use Rattle.ln_node_loops.specs.Phase.{is_served, met_by}
 use Rattle.ln_book.specs.Answers.{command_subject, answer_to}
 use Rattle.ln_node_loops.specs.Owed.{owed, asked, kept_if, settled_at, use_word}
 use Rattle.ln_node_loops.specs.Orders.{subject_in, reply_of, replies_to}
-use Rattle.ln_node_loops.specs.Turns.{turn_of, says, drops, events, may_come, replies, Declines}
+use Rattle.ln_node_loops.specs.Turns.{turn_of, says, drops, events, may_come, replies, Declines, Stand, notes, met_in}
+use Rattle.ln_node_loops.specs.Noted.{meets, became, awaits_init, beside_reply}
 
 -- the three parts, one after the other
 pub in-parts : (x : Option Seen) (b : Bool) (es : List (ℕ × ChannelEvent)) (s one two end : List Saying)
@@ -58,6 +60,16 @@ module _ {S : Type 0} (halted : S → Bool) (seen : S → Option Seen) where
       ap (λ b. owed (seen s') b (events os)) (sym (drops-so i (halted s')) ∙ not-passed p i (halted s') (at refl))
       ∙ ap (λ l. owed (seen s') false (events l)) (none refl)
 
+  passed-notes : {W : Type 0} (s s' : Stand S) (i : Item W) (said : Result (Unit {0}) Refusal) (met : Option Message)
+      → met ≡ met_by s.phase i s'.phase → said ≡ Ok tt
+      → meets met ++ became (awaits_init s.phase) (halted s.end) said s'.phase (halted s'.end)
+      ≡ meets (met_by s.phase i s'.phase)
+      ++ became (awaits_init s.phase) (halted s.end) (Ok tt) s'.phase (halted s'.end)
+  passed-notes s s' i said met is so =
+      ap (λ m. meets m ++ became (awaits_init s.phase) (halted s.end) said s'.phase (halted s'.end)) is
+      ∙ ap (λ r. meets (met_by s.phase i s'.phase)
+      ++ became (awaits_init s.phase) (halted s.end) r s'.phase (halted s'.end)) so
+
   -- and its reply, where it is an order
   pub item-replies : {W : Type 0} (s : S) (served : Bool) (i : Item W) (os : List Output)
       (answer written : Result (Unit {0}) Refusal) (next : ℕ) → next ≡ next_htlc (seen s)
@@ -75,6 +87,35 @@ module _ {S : Type 0} (halted : S → Bool) (seen : S → Option Seen) where
   item-replies s false (item.Order c) os answer written next is declined =
       ap (λ a. reply_of (command_subject next c) a ∷ []) (declined refl)
   item-replies s false item.Stop os answer written next is declined = refl
+
+  -- and what is noted of it
+  pub item-notes : {W : Type 0} (s s' : Stand S) (served : Bool) (i : Item W) (os : List Output)
+      (answer written : Result (Unit {0}) Refusal) (next : ℕ) (met : Option Message)
+      → (served ≡ false → Declines i answer) → (served ≡ false → written ≡ Ok tt)
+      → met ≡ met_in served s.phase i s'.phase
+      → meets met ++ became (awaits_init s.phase) (halted s.end) (beside_reply (subject_in next i) answer written)
+      s'.phase (halted s'.end)
+      ≡ notes halted seen s (turn_of served i os answer written) s'
+  item-notes s s' true (item.Joined w) os answer written next met declined dry is =
+      ap (λ m. meets m ++ became (awaits_init s.phase) (halted s.end) answer s'.phase (halted s'.end)) is
+  item-notes s s' true (item.Read m) os answer written next met declined dry is =
+      ap (λ m. meets m ++ became (awaits_init s.phase) (halted s.end) answer s'.phase (halted s'.end)) is
+  item-notes s s' true item.Broken os answer written next met declined dry is =
+      ap (λ m. meets m ++ became (awaits_init s.phase) (halted s.end) answer s'.phase (halted s'.end)) is
+  item-notes s s' true (item.Order c) os answer written next met declined dry is =
+      ap (λ m. meets m ++ became (awaits_init s.phase) (halted s.end) written s'.phase (halted s'.end)) is
+  item-notes s s' true item.Stop os answer written next met declined dry is =
+      ap (λ m. meets m ++ became (awaits_init s.phase) (halted s.end) answer s'.phase (halted s'.end)) is
+  item-notes s s' false (item.Joined w) os answer written next met declined dry is =
+      passed-notes s s' (item.Joined w) answer met is (declined refl)
+  item-notes s s' false (item.Read m) os answer written next met declined dry is =
+      passed-notes s s' (item.Read m) answer met is (declined refl)
+  item-notes s s' false item.Broken os answer written next met declined dry is =
+      passed-notes s s' item.Broken answer met is (declined refl)
+  item-notes s s' false (item.Order c) os answer written next met declined dry is =
+      passed-notes s s' (item.Order c) written met is (dry refl)
+  item-notes s s' false item.Stop os answer written next met declined dry is =
+      passed-notes s s' item.Stop answer met is (declined refl)
 
 pub item-comes : {W : Type 0} (served h : Bool) (i : Item W) (os : List Output)
     (answer written : Result (Unit {0}) Refusal)

@@ -1,5 +1,5 @@
 -- Each order is replied to.
-use Rattle.std.proofs.Common.{◌≡◌, ◌++◌, ◌∷◌, [], ℕ, List, Option, Bool, true, false, Result}
+use Rattle.std.proofs.Common.{◌≡◌, ◌++◌, ◌∷◌, [], ℕ, List, Option, Bool, Result}
 use Rattle.std.proofs.Common.{refl, sym, ap, ◌∙◌, subst, inl, inr}
 use Rattle.ln_msgs.specs.declared.messages.message.Message.{Message}
 use Rattle.ln_refusals.specs.declared.refusal.Refusal.{Refusal}
@@ -9,6 +9,7 @@ use Rattle.ln_channel.specs.declared.output.Output.{Output}
 use Rattle.ln_book.specs.declared.switch.saying.Saying.{Saying}
 use Rattle.ln_book.specs.Answers.{command_subject}
 use Rattle.ln_book.specs.Seen.{Seen, next_htlc}
+use Rattle.ln_node_loops.specs.declared.features.PeerFeatures.{PeerFeatures}
 use Rattle.ln_node_loops.specs.declared.item.Item.{Item}
 use Rattle.ln_node_loops.specs.declared.item.Item.TheVariants as item
 use Rattle.ln_node_loops.specs.Act.{Act}
@@ -41,9 +42,9 @@ module _ {S : Type 0} (acts : S → Act → Result (List Output) Refusal → S �
 
 module _ {S W : Type 0} (acts : S → Act → Result (List Output) Refusal → S → Type 0) (halted : S → Bool)
     (pending : S → List (ℕ × ChannelEvent)) (owes : S → Bool) (seen : S → Option Seen) (contents : W → Option (List ℕ))
-    (own_init : Message) (known : List ℕ) where
+    (own_init : Message) (peer : PeerFeatures) where
   -- what is replied for a turn is so to its order
-  replies-one : (s : Stand S) (t : Turn W) (s' : Stand S) → Step acts halted pending owes contents own_init known s t s'
+  replies-one : (s : Stand S) (t : Turn W) (s' : Stand S) → Step acts halted pending owes contents own_init peer s t s'
       → AreRepliesTo acts seen (orders_in (items_of (t ∷ []))) (replies seen s.end t)
   replies-one s (Serves (item.Joined w) os a) s' step = tt
   replies-one s (Serves (item.Read m) os a) s' step = tt
@@ -73,7 +74,7 @@ module _ {S W : Type 0} (acts : S → Act → Result (List Output) Refusal → S
   replies-one s (Rests allowed) s' step = tt
 
   pub replies-all : (tried : Bool) (s : Stand S) (ts : List (Turn W)) (words : List Saying) (news : List News)
-      (s' : Stand S) → Leads acts halted pending owes seen contents own_init known tried s ts words news s'
+      (s' : Stand S) → Leads acts halted pending owes seen contents own_init peer tried s ts words news s'
       → AreRepliesTo acts seen (orders_in (items_of ts)) (replies_in news)
   replies-all tried s [] words news s' l = subst (λ n. AreRepliesTo acts seen [] (replies_in n)) (sym l.2) tt
   replies-all tried s (t ∷ ts) words news s' l =

@@ -7,6 +7,7 @@ use Rattle.ln_msgs.specs.declared.messages.message.Message.{Message}
 use Rattle.ln_hooks.specs.declared.event.ChannelEvent.{ChannelEvent}
 use Rattle.ln_channel.specs.declared.output.Output.{Output}
 use Rattle.ln_refusals.specs.declared.refusal.Refusal.{Refusal}
+use Rattle.ln_node_loops.specs.declared.features.PeerFeatures.{PeerFeatures}
 use Rattle.ln_node_loops.specs.declared.item.Item.{Item}
 use Rattle.ln_node_loops.specs.declared.item.Item.TheVariants as item
 use Rattle.ln_node_loops.specs.Act.{Act}
@@ -17,12 +18,16 @@ use Rattle.ln_node_loops.specs.Turns.{items_of, told, told_in, News, turn_of, ev
 use Rattle.ln_node_loops.specs.Turns.{fresh, last_of, tasks, tasks_of, is_new, load_of, told_after, says, is_load}
 use Rattle.ln_node_loops.specs.Turns.{may_come}
 use Rattle.ln_node_loops.specs.Turns.{OneTurn, ReloadsIfHalted, drops, OfBook, OfUser, OfWorker}
-use Rattle.ln_node_loops.specs.Turns.{replies, replies_in, Declines}
+use Rattle.ln_node_loops.specs.Turns.{replies, replies_in, Declines, notes, noted_in, met_in}
+use Rattle.ln_node_loops.specs.declared.noted.Noted.{Noted}
+use Rattle.ln_node_loops.specs.declared.noted.Noted.TheVariants.{Tells}
+use Rattle.ln_node_loops.specs.Noted.{meets, became, became_unless, awaits_init, beside_reply, load_notes}
+use Rattle.ln_node_loops.specs.declared.notice.Notice.TheVariants as notice
 use Rattle.ln_node_loops.specs.Orders.{Reply, subject_in, replies_to}
 use Rattle.ln_node_loops.specs.Owed.{owed, load_words}
 use Rattle.ln_node_loops.specs.Phase.{is_served}
-use Rattle.ln_book.specs.Answers.{command_subject, answer_to}
-use Rattle.ln_node_loops.proofs.Owing.{item-owes, item-comes, item-replies, asked-at}
+use Rattle.ln_book.specs.Answers.{command_subject, answer_to, waits}
+use Rattle.ln_node_loops.proofs.Owing.{item-owes, item-comes, item-replies, item-notes, asked-at}
 use Rattle.ln_channel.specs.declared.command.Command.{Command}
 use Rattle.ln_channel.specs.declared.command.Command.TheVariants as command
 use Rattle.ln_book.specs.Saying.{took_one, answered}
@@ -61,13 +66,18 @@ none-append empty taken (t ∷ ts) us first on = (
 
 told-append : (ns ms : List News) → told_in (ns ++ ms) ≡ told_in ns ++ told_in ms
 told-append [] ms = refl
-told-append ((c, es, rs) ∷ ns) ms =
+told-append ((c, es, rs, qs) ∷ ns) ms =
     ap (λ l. es ++ l) (told-append ns ms) ∙ sym (append_assoc es (told_in ns) (told_in ms))
 
 replies-append : (ns ms : List News) → replies_in (ns ++ ms) ≡ replies_in ns ++ replies_in ms
 replies-append [] ms = refl
-replies-append ((c, es, rs) ∷ ns) ms =
+replies-append ((c, es, rs, qs) ∷ ns) ms =
     ap (λ l. rs ++ l) (replies-append ns ms) ∙ sym (append_assoc rs (replies_in ns) (replies_in ms))
+
+noted-append : (ns ms : List News) → noted_in (ns ++ ms) ≡ noted_in ns ++ noted_in ms
+noted-append [] ms = refl
+noted-append ((c, es, rs, qs) ∷ ns) ms =
+    ap (λ l. qs ++ l) (noted-append ns ms) ∙ sym (append_assoc qs (noted_in ns) (noted_in ms))
 
 fresh-by : (b : Bool) (n : ℕ) (e : ChannelEvent) (last : Option ℕ) (xs ys : List (ℕ × ChannelEvent))
     → fresh (Some n) (xs ++ ys) ≡ fresh (Some n) xs ++ fresh (last_of (Some n) xs) ys
@@ -100,7 +110,7 @@ last-append last ((n, e) ∷ xs) ys =
 tasks-append : {H : Type 0} (last : Option ℕ) (ns ms : List News)
     → tasks_of {H = H} last (ns ++ ms) ≡ tasks_of last ns ++ tasks_of (last_of last (told_in ns)) ms
 tasks-append last [] ms = refl
-tasks-append last ((c, es, rs) ∷ ns) ms =
+tasks-append last ((c, es, rs, qs) ∷ ns) ms =
     ap (λ l. tasks c (fresh last es) ++ l) (tasks-append (last_of last es) ns ms)
     ∙ sym (append_assoc (tasks c (fresh last es)) (tasks_of (last_of last es) ns)
     (tasks_of (last_of (last_of last es) (told_in ns)) ms))
@@ -109,10 +119,10 @@ tasks-append last ((c, es, rs) ∷ ns) ms =
 
 -- what is put and which number is the last: after what one turn has told of, and over two lists
 pub put-first : {H : Type 0} (last mid : Option ℕ) (c : Option (List ℕ)) (es : List (ℕ × ChannelEvent))
-    (rs : List Reply) (ms : List News) (put put' put'' : List (Task H))
+    (rs : List Reply) (qs : List Noted) (ms : List News) (put put' put'' : List (Task H))
     → put' ≡ put ++ tasks c (fresh last es) → mid ≡ last_of last es → put'' ≡ put' ++ tasks_of mid ms
-    → put'' ≡ put ++ tasks_of last ((c, es, rs) ∷ ms)
-put-first last mid c es rs ms put put' put'' one at two =
+    → put'' ≡ put ++ tasks_of last ((c, es, rs, qs) ∷ ms)
+put-first last mid c es rs qs ms put put' put'' one at two =
     two ∙ ap (λ l. l ++ tasks_of mid ms) one ∙ append_assoc put (tasks c (fresh last es)) (tasks_of mid ms)
     ∙ ap (λ m. put ++ (tasks c (fresh last es) ++ tasks_of m ms)) at
 
@@ -213,32 +223,32 @@ come-on h (Rests allowed) works e = refl
 
 module _ {S W : Type 0} (acts : S → Act → Result (List Output) Refusal → S → Type 0) (halted : S → Bool)
     (pending : S → List (ℕ × ChannelEvent)) (owes : S → Bool) (seen : S → Option Seen) (contents : W → Option (List ℕ))
-    (own_init : Message) (known : List ℕ) where
+    (own_init : Message) (peer : PeerFeatures) where
   leads-alike : (b : Bool) (s : Stand S) (ts : List (Turn W)) (ws : List Saying) (ns : List News) (s' : Stand S)
-      → Leads acts halted pending owes seen contents own_init known false s ts ws ns s'
-      → Leads acts halted pending owes seen contents own_init known b s ts ws ns s'
+      → Leads acts halted pending owes seen contents own_init peer false s ts ws ns s'
+      → Leads acts halted pending owes seen contents own_init peer b s ts ws ns s'
   leads-alike b s [] ws ns s' l = l
   leads-alike b s (t ∷ ts) ws ns s' l =
       (l.0, l.1, l.2, l.3, come-alike b (halted s.end) t l.4, l.5, l.6, l.7)
 
   pub leads-on : (s : Stand S) (ts : List (Turn W)) (ws : List Saying) (ns : List News) (s' : Stand S)
       → halted s.end ≡ false
-      → Leads acts halted pending owes seen contents own_init known true s ts ws ns s'
-      → Leads acts halted pending owes seen contents own_init known false s ts ws ns s'
+      → Leads acts halted pending owes seen contents own_init peer true s ts ws ns s'
+      → Leads acts halted pending owes seen contents own_init peer false s ts ws ns s'
   leads-on s [] ws ns s' works l = l
   leads-on s (t ∷ ts) ws ns s' works l =
       (l.0, l.1, l.2, l.3, come-on (halted s.end) t works l.4, l.5, l.6, l.7)
 
   leads-append : (b : Bool) (s : Stand S) (ts : List (Turn W)) (ws : List Saying) (ns : List News) (mid : Stand S)
       (us : List (Turn W)) (vs : List Saying) (ms : List News) (s' : Stand S)
-      → Leads acts halted pending owes seen contents own_init known b s ts ws ns mid
-      → Leads acts halted pending owes seen contents own_init known false mid us vs ms s'
-      → Leads acts halted pending owes seen contents own_init known b s (ts ++ us) (ws ++ vs) (ns ++ ms) s'
+      → Leads acts halted pending owes seen contents own_init peer b s ts ws ns mid
+      → Leads acts halted pending owes seen contents own_init peer false mid us vs ms s'
+      → Leads acts halted pending owes seen contents own_init peer b s (ts ++ us) (ws ++ vs) (ns ++ ms) s'
   leads-append b s [] ws ns mid us vs ms s' same on =
-      subst (λ w. Leads acts halted pending owes seen contents own_init known b s us (w ++ vs) (ns ++ ms) s')
+      subst (λ w. Leads acts halted pending owes seen contents own_init peer b s us (w ++ vs) (ns ++ ms) s')
       (sym same.1)
-      (subst (λ n. Leads acts halted pending owes seen contents own_init known b s us vs (n ++ ms) s') (sym same.2)
-      (subst (λ m. Leads acts halted pending owes seen contents own_init known b m us vs ms s') same.0
+      (subst (λ n. Leads acts halted pending owes seen contents own_init peer b s us vs (n ++ ms) s') (sym same.2)
+      (subst (λ m. Leads acts halted pending owes seen contents own_init peer b m us vs ms s') same.0
       (leads-alike b mid us vs ms s' on)))
   leads-append b s (t ∷ ts) ws ns mid us vs ms s' first on = (
     first.0,
@@ -253,7 +263,7 @@ module _ {S W : Type 0} (acts : S → Act → Result (List Output) Refusal → S
 
   passed-so : (s s' : Stand S) (served : Bool) (i : Item W) (os : List Output)
       (answer written : Result (Unit {0}) Refusal)
-      → Step acts halted pending owes contents own_init known s (turn_of served i os answer written) s'
+      → Step acts halted pending owes contents own_init peer s (turn_of served i os answer written) s'
       → served ≡ false → is_served s.phase i ≡ false
   passed-so s s' true i os answer written step e = cc
   passed-so s s' false i os answer written step e = step.0
@@ -265,59 +275,64 @@ both-true false b e = absurd cc
 
 module _ {S W H : Type 0} (acts : S → Act → Result (List Output) Refusal → S → Type 0) (halted : S → Bool)
     (pending : S → List (ℕ × ChannelEvent)) (owes : S → Bool) (seen : S → Option Seen) (contents : W → Option (List ℕ))
-    (own_init : Message) (known : List ℕ) where
+    (own_init : Message) (peer : PeerFeatures) where
   -- one turn, whose events were put after the last number so far
   pub turned : (a b : LoopState S W H) (t : Turn W) (last : Option ℕ) (es : List (ℕ × ChannelEvent))
       (words : List Saying)
-      (rs : List Reply) (bs : List Bool)
-      → Step acts halted pending owes contents own_init known a.stand t b.stand → b.taken ≡ a.taken ++ items_of (t ∷ [])
+      (rs : List Reply) (bs : List Bool) (qs : List Noted)
+      → Step acts halted pending owes contents own_init peer a.stand t b.stand → b.taken ≡ a.taken ++ items_of (t ∷ [])
       → last ≡ a.last → es ≡ told t → b.put ≡ a.put ++ tasks (channel_of (seen b.stand.end)) (fresh last es)
       → b.last ≡ last_of last es
       → words ≡ says halted seen a.stand.end t b.stand.end → b.said ≡ a.said ++ words
       → rs ≡ replies seen a.stand.end t → b.replied ≡ a.replied ++ rs → bs ≡ asks t → b.allowed ≡ a.allowed ++ bs
-      → OneTurn acts halted pending owes seen contents own_init known a t b
-  turned a b t last es words rs bs step took at are put end due spoke answers replied asked allowed = record {
-    step = step;
-    took = took;
-    put = put ∙ ap (λ l. a.put ++ tasks (channel_of (seen b.stand.end)) (fresh l es)) at
-        ∙ ap (λ l. a.put ++ tasks (channel_of (seen b.stand.end)) (fresh a.last l)) are;
-    last = end ∙ ap (λ l. last_of l es) at ∙ ap (λ l. last_of a.last l) are;
-    spoke = spoke ∙ ap (λ l. a.said ++ l) due;
-    replied = replied ∙ ap (λ l. a.replied ++ l) answers;
-    allowed = allowed ∙ ap (λ l. a.allowed ++ l) asked;
-  }
+      → qs ≡ notes halted seen a.stand t b.stand → b.noted ≡ a.noted ++ qs
+      → OneTurn acts halted pending owes seen contents own_init peer a t b
+  turned a b t last es words rs bs qs step took at are put end due spoke answers replied asked allowed is
+      noted = record {
+        step = step;
+        took = took;
+        put = put ∙ ap (λ l. a.put ++ tasks (channel_of (seen b.stand.end)) (fresh l es)) at
+            ∙ ap (λ l. a.put ++ tasks (channel_of (seen b.stand.end)) (fresh a.last l)) are;
+        last = end ∙ ap (λ l. last_of l es) at ∙ ap (λ l. last_of a.last l) are;
+        spoke = spoke ∙ ap (λ l. a.said ++ l) due;
+        noted = noted ∙ ap (λ l. a.noted ++ l) is;
+        replied = replied ∙ ap (λ l. a.replied ++ l) answers;
+        allowed = allowed ∙ ap (λ l. a.allowed ++ l) asked;
+      }
 
   -- a load, after which the events that are pending were put and the book was told of it
   pub turned-load : (a b : LoopState S W H) (answer : Result (Unit {0}) Refusal) (es told : List (ℕ × ChannelEvent))
       (last : Option ℕ)
-      → Step acts halted pending owes contents own_init known a.stand (load_of answer es) b.stand → b.taken ≡ a.taken
+      → Step acts halted pending owes contents own_init peer a.stand (load_of answer es) b.stand → b.taken ≡ a.taken
       → last ≡ a.last → told ≡ told_after answer es
       → b.put ≡ a.put ++ tasks (channel_of (seen b.stand.end)) (fresh last told) → b.last ≡ last_of last told
       → b.said ≡ a.said ++ load_words answer (seen b.stand.end) told → b.replied ≡ a.replied → b.allowed ≡ a.allowed
-      → ReloadsIfHalted acts halted pending owes seen contents own_init known a b
-  turned-load a b (Ok u) es told last step took at are put end spoke still asked =
+      → b.noted ≡ a.noted ++ load_notes answer
+      → ReloadsIfHalted acts halted pending owes seen contents own_init peer a b
+  turned-load a b (Ok u) es told last step took at are put end spoke still asked noted =
       inr (
         Loads es,
         refl,
-        turned a b (Loads es) last told (load_words (Ok u) (seen b.stand.end) told) [] [] step
+        turned a b (Loads es) last told (load_words (Ok u) (seen b.stand.end) told) [] []
+            (Tells notice.Loaded ∷ []) step
             (took ∙ sym (append-nil a.taken)) at are put end
             (ap (λ l. owed (seen b.stand.end) true l) are) spoke refl (still ∙ sym (append-nil a.replied)) refl
-            (asked ∙ sym (append-nil a.allowed)),
+            (asked ∙ sym (append-nil a.allowed)) refl noted,
       )
-  turned-load a b (Err r) es told last step took at are put end spoke still asked =
+  turned-load a b (Err r) es told last step took at are put end spoke still asked noted =
       inr (
         StaysHalted r,
         refl,
-        turned a b (StaysHalted r) last told (load_words (Err r) (seen b.stand.end) told) [] [] step
+        turned a b (StaysHalted r) last told (load_words (Err r) (seen b.stand.end) told) [] [] [] step
             (took ∙ sym (append-nil a.taken)) at are put end refl spoke refl (still ∙ sym (append-nil a.replied)) refl
-            (asked ∙ sym (append-nil a.allowed)),
+            (asked ∙ sym (append-nil a.allowed)) refl noted,
       )
 
 module _ {S W H : Type 0} (acts : S → Act → Result (List Output) Refusal → S → Type 0) (halted : S → Bool)
     (pending : S → List (ℕ × ChannelEvent)) (owes : S → Bool) (seen : S → Option Seen) (contents : W → Option (List ℕ))
-    (own_init : Message) (known : List ℕ) (empty : List (Item W) → Type 0) where
+    (own_init : Message) (peer : PeerFeatures) (empty : List (Item W) → Type 0) where
   pub ran-none : (b : Bool) (a : LoopState S W H)
-      → Ran acts halted pending owes seen contents own_init known empty b a a
+      → Ran acts halted pending owes seen contents own_init peer empty b a a
   ran-none b a = record {
     turns = [];
     words = [];
@@ -327,20 +342,21 @@ module _ {S W H : Type 0} (acts : S → Act → Result (List Output) Refusal →
     put = sym (append-nil a.put);
     last = refl;
     spoke = sym (append-nil a.said);
+    noted = sym (append-nil a.noted);
     replied = sym (append-nil a.replied);
     allowed = sym (append-nil a.allowed);
     idle = tt;
   }
 
   pub ran-on : (k : Bool) (a b c : LoopState S W H)
-      → Ran acts halted pending owes seen contents own_init known empty k a b
-      → Ran acts halted pending owes seen contents own_init known empty false b c
-      → Ran acts halted pending owes seen contents own_init known empty k a c
+      → Ran acts halted pending owes seen contents own_init peer empty k a b
+      → Ran acts halted pending owes seen contents own_init peer empty false b c
+      → Ran acts halted pending owes seen contents own_init peer empty k a c
   ran-on k a b c one two = record {
     turns = one.turns ++ two.turns;
     words = one.words ++ two.words;
     news = one.news ++ two.news;
-    leads = leads-append acts halted pending owes seen contents own_init known k a.stand one.turns one.words one.news
+    leads = leads-append acts halted pending owes seen contents own_init peer k a.stand one.turns one.words one.news
         b.stand two.turns two.words two.news c.stand one.leads two.leads;
     took = two.took ∙ ap (λ l. l ++ items_of two.turns) one.took
         ∙ append_assoc a.taken (items_of one.turns) (items_of two.turns)
@@ -349,6 +365,9 @@ module _ {S W H : Type 0} (acts : S → Act → Result (List Output) Refusal →
     last = last-on a.last b.last c.last (told_in one.news) (told_in two.news) one.last two.last
         ∙ ap (λ l. last_of a.last l) (sym (told-append one.news two.news));
     spoke = two.spoke ∙ ap (λ l. l ++ two.words) one.spoke ∙ append_assoc a.said one.words two.words;
+    noted = two.noted ∙ ap (λ l. l ++ noted_in two.news) one.noted
+        ∙ append_assoc a.noted (noted_in one.news) (noted_in two.news)
+        ∙ ap (λ l. a.noted ++ l) (sym (noted-append one.news two.news));
     replied = two.replied ∙ ap (λ l. l ++ replies_in two.news) one.replied
         ∙ append_assoc a.replied (replies_in one.news) (replies_in two.news)
         ∙ ap (λ l. a.replied ++ l) (sym (replies-append one.news two.news));
@@ -362,22 +381,25 @@ module _ {S W H : Type 0} (acts : S → Act → Result (List Output) Refusal →
   -- one turn, after which others went on
   pub ran-turn : (k : Bool) (a b c : LoopState S W H) (t : Turn W) → may_come k (halted a.stand.end) t ≡ true
       → (is_idle t ≡ true → empty a.taken)
-      → OneTurn acts halted pending owes seen contents own_init known a t b
-      → Ran acts halted pending owes seen contents own_init known empty (is_load t) b c
-      → Ran acts halted pending owes seen contents own_init known empty k a c
+      → OneTurn acts halted pending owes seen contents own_init peer a t b
+      → Ran acts halted pending owes seen contents own_init peer empty (is_load t) b c
+      → Ran acts halted pending owes seen contents own_init peer empty k a c
   ran-turn k a b c t may none one two = record {
     turns = t ∷ two.turns;
     words = says halted seen a.stand.end t b.stand.end ++ two.words;
-    news = (channel_of (seen b.stand.end), told t, replies seen a.stand.end t) ∷ two.news;
+    news = (channel_of (seen b.stand.end), told t, replies seen a.stand.end t, notes halted seen a.stand t b.stand)
+        ∷ two.news;
     leads = (b.stand, two.words, two.news, one.step, may, refl, refl, two.leads);
     took = two.took ∙ ap (λ l. l ++ items_of two.turns) one.took
         ∙ append_assoc a.taken (items_of (t ∷ [])) (items_of two.turns)
         ∙ ap (λ l. a.taken ++ l) (sym (items-append (t ∷ []) two.turns));
-    put = put-first a.last b.last (channel_of (seen b.stand.end)) (told t) (replies seen a.stand.end t) two.news a.put
-        b.put c.put one.put one.last two.put;
+    put = put-first a.last b.last (channel_of (seen b.stand.end)) (told t) (replies seen a.stand.end t)
+        (notes halted seen a.stand t b.stand) two.news a.put b.put c.put one.put one.last two.put;
     last = last-on a.last b.last c.last (told t) (told_in two.news) one.last two.last;
     spoke = two.spoke ∙ ap (λ l. l ++ two.words) one.spoke
         ∙ append_assoc a.said (says halted seen a.stand.end t b.stand.end) two.words;
+    noted = two.noted ∙ ap (λ l. l ++ noted_in two.news) one.noted
+        ∙ append_assoc a.noted (notes halted seen a.stand t b.stand) (noted_in two.news);
     replied = two.replied ∙ ap (λ l. l ++ replies_in two.news) one.replied
         ∙ append_assoc a.replied (replies seen a.stand.end t) (replies_in two.news);
     allowed = two.allowed ∙ ap (λ l. l ++ asked_in two.turns) one.allowed
@@ -387,66 +409,73 @@ module _ {S W H : Type 0} (acts : S → Act → Result (List Output) Refusal →
 
   pub ran-one : (k : Bool) (a b : LoopState S W H) (t : Turn W) → may_come k (halted a.stand.end) t ≡ true
       → (is_idle t ≡ true → empty a.taken)
-      → OneTurn acts halted pending owes seen contents own_init known a t b
-      → Ran acts halted pending owes seen contents own_init known empty k a b
+      → OneTurn acts halted pending owes seen contents own_init peer a t b
+      → Ran acts halted pending owes seen contents own_init peer empty k a b
   ran-one k a b t may none one = ran-turn k a b b t may none one (ran-none (is_load t) b)
 
   -- after a halted end was to be loaded an item was taken
-  pub ran-mended : (a b c : LoopState S W H) → ReloadsIfHalted acts halted pending owes seen contents own_init known a b
-      → Ran acts halted pending owes seen contents own_init known empty true b c
-      → Ran acts halted pending owes seen contents own_init known empty false a c
+  pub ran-mended : (a b c : LoopState S W H) → ReloadsIfHalted acts halted pending owes seen contents own_init peer a b
+      → Ran acts halted pending owes seen contents own_init peer empty true b c
+      → Ran acts halted pending owes seen contents own_init peer empty false a c
   ran-mended a b c (inl none) two = record {
     turns = two.turns;
     words = two.words;
     news = two.news;
     leads = subst
-        (λ s. Leads acts halted pending owes seen contents own_init known false s two.turns two.words two.news c.stand)
+        (λ s. Leads acts halted pending owes seen contents own_init peer false s two.turns two.words two.news c.stand)
         (ap (λ (g : LoopState S W H). g.stand) none.1)
-        (leads-on acts halted pending owes seen contents own_init known b.stand two.turns two.words two.news c.stand
+        (leads-on acts halted pending owes seen contents own_init peer b.stand two.turns two.words two.news c.stand
         (ap (λ (g : LoopState S W H). halted g.stand.end) none.1 ∙ none.0) two.leads);
     took = two.took ∙ ap (λ (g : LoopState S W H). g.taken ++ items_of two.turns) none.1;
     put = two.put ∙ ap (λ (g : LoopState S W H). g.put ++ tasks_of g.last two.news) none.1;
     last = two.last ∙ ap (λ (g : LoopState S W H). last_of g.last (told_in two.news)) none.1;
     spoke = two.spoke ∙ ap (λ (g : LoopState S W H). g.said ++ two.words) none.1;
+    noted = two.noted ∙ ap (λ (g : LoopState S W H). g.noted ++ noted_in two.news) none.1;
     replied = two.replied ∙ ap (λ (g : LoopState S W H). g.replied ++ replies_in two.news) none.1;
     allowed = two.allowed ∙ ap (λ (g : LoopState S W H). g.allowed ++ asked_in two.turns) none.1;
     idle = subst (λ (g : LoopState S W H). FindsNone empty g.taken two.turns) none.1 two.idle;
   }
   ran-mended a b c (inr some) two =
       ran-turn false a b c some.0 (loads-come some.0 (halted a.stand.end) some.1) (loads-busy some.0 some.1) some.2
-      (subst (λ k. Ran acts halted pending owes seen contents own_init known empty k b c) (sym some.1) two)
+      (subst (λ k. Ran acts halted pending owes seen contents own_init peer empty k b c) (sym some.1) two)
 
   -- an item that was served or passed over
   pub ran-item : (a b : LoopState S W H) (served : Bool) (i : Item W) (os : List Output)
-      (answer written : Result (Unit {0}) Refusal) (last : Option ℕ) (next : ℕ)
-      → Step acts halted pending owes contents own_init known a.stand (turn_of served i os answer written) b.stand
-      → (served ≡ false → os ≡ []) → (served ≡ false → Declines i answer)
+      (answer written : Result (Unit {0}) Refusal) (last : Option ℕ) (next : ℕ) (met : Option Message)
+      → Step acts halted pending owes contents own_init peer a.stand (turn_of served i os answer written) b.stand
+      → (served ≡ false → os ≡ []) → (served ≡ false → Declines i answer) → (served ≡ false → written ≡ Ok tt)
+      → met ≡ met_in served a.stand.phase i b.stand.phase
       → b.taken ≡ a.taken ++ i ∷ [] → last ≡ a.last
       → b.put ≡ a.put ++ tasks (channel_of (seen b.stand.end)) (fresh last (events os))
       → b.last ≡ last_of last (events os)
       → b.said ≡ a.said ++ owed (seen b.stand.end) (drops i false && not (halted b.stand.end)) (events os)
       → next ≡ next_htlc (seen a.stand.end) → b.replied ≡ a.replied ++ replies_to (subject_in next i) answer
       → b.allowed ≡ a.allowed
-      → Ran acts halted pending owes seen contents own_init known empty true a b
-  ran-item a b served i os answer written last next step none declined took at put end spoke is replied asked =
+      → b.noted ≡ a.noted ++ (meets met
+      ++ became (awaits_init a.stand.phase) (halted a.stand.end) (beside_reply (subject_in next i) answer written)
+      b.stand.phase (halted b.stand.end))
+      → Ran acts halted pending owes seen contents own_init peer empty true a b
+  ran-item a b served i os answer written last next met step none declined dry meeting took at put end spoke is replied
+      asked noted =
       let turn = turn_of served i os answer written in
       ran-one true a b turn (item-comes served (halted a.stand.end) i os answer written)
       (turned-busy served i os answer written)
-      (turned acts halted pending owes seen contents own_init known a b turn last (events os) _
-      (replies_to (subject_in next i) answer) [] step
+      (turned acts halted pending owes seen contents own_init peer a b turn last (events os) _
+      (replies_to (subject_in next i) answer) [] _ step
       (took ∙ ap (λ l. a.taken ++ l) (sym (turned-items served i os answer written))) at
       (turned-told served i os answer written none) put end
       (item-owes halted seen a.stand.end b.stand.end a.stand.phase served i os answer written
-      (passed-so acts halted pending owes seen contents own_init known a.stand b.stand served i os answer written step)
+      (passed-so acts halted pending owes seen contents own_init peer a.stand b.stand served i os answer written step)
       none)
       spoke (item-replies halted seen a.stand.end served i os answer written next is declined) replied
-      (turned-asks served i os answer written) (asked ∙ sym (append-nil a.allowed)))
+      (turned-asks served i os answer written) (asked ∙ sym (append-nil a.allowed))
+      (item-notes halted seen a.stand b.stand served i os answer written next met declined dry meeting) noted)
 
   -- nothing was taken, put, said, replied or asked
   pub ran-still : (k : Bool) (a b : LoopState S W H) → b.stand ≡ a.stand → b.last ≡ a.last → b.taken ≡ a.taken
-      → b.put ≡ a.put → b.said ≡ a.said → b.replied ≡ a.replied → b.allowed ≡ a.allowed
-      → Ran acts halted pending owes seen contents own_init known empty k a b
-  ran-still k a b stand last taken put said replied allowed = record {
+      → b.put ≡ a.put → b.said ≡ a.said → b.replied ≡ a.replied → b.allowed ≡ a.allowed → b.noted ≡ a.noted
+      → Ran acts halted pending owes seen contents own_init peer empty k a b
+  ran-still k a b stand last taken put said replied allowed noted = record {
     turns = [];
     words = [];
     news = [];
@@ -455,6 +484,7 @@ module _ {S W H : Type 0} (acts : S → Act → Result (List Output) Refusal →
     put = put ∙ sym (append-nil a.put);
     last = last;
     spoke = said ∙ sym (append-nil a.said);
+    noted = noted ∙ sym (append-nil a.noted);
     replied = replied ∙ sym (append-nil a.replied);
     allowed = allowed ∙ sym (append-nil a.allowed);
     idle = tt;
@@ -463,15 +493,16 @@ module _ {S W H : Type 0} (acts : S → Act → Result (List Output) Refusal →
   -- it asked whether it is to sign by itself, and didn't sign
   pub ran-rested : (a b : LoopState S W H) (told due : Bool) → due ≡ (told && owes a.stand.end) → due ≡ false
       → b.stand ≡ a.stand → b.last ≡ a.last → b.taken ≡ a.taken → b.put ≡ a.put → b.said ≡ a.said
-      → b.replied ≡ a.replied → b.allowed ≡ a.allowed ++ told ∷ [] → empty a.taken
-      → Ran acts halted pending owes seen contents own_init known empty false a b
-  ran-rested a b told due is not-due stand last taken put said replied allowed none =
+      → b.replied ≡ a.replied → b.allowed ≡ a.allowed ++ told ∷ [] → b.noted ≡ a.noted → empty a.taken
+      → Ran acts halted pending owes seen contents own_init peer empty false a b
+  ran-rested a b told due is not-due stand last taken put said replied allowed noted none =
       ran-one false a b (Rests told) refl (λ _. none) (record {
         step = (sym is ∙ not-due, stand);
         took = taken ∙ sym (append-nil a.taken);
         put = put ∙ sym (append-nil a.put);
         last = last;
         spoke = said ∙ sym (append-nil a.said);
+        noted = noted ∙ sym (append-nil a.noted);
         replied = replied ∙ sym (append-nil a.replied);
         allowed = allowed;
       })
@@ -481,25 +512,27 @@ module _ {S W H : Type 0} (acts : S → Act → Result (List Output) Refusal →
       (answer written : Result (Unit {0}) Refusal) (last : Option ℕ)
       → due ≡ (told && owes a.stand.end) → due ≡ true
       → (owes a.stand.end ≡ true
-      → Step acts halted pending owes contents own_init known a.stand (Obeys OfWorker command.Sign os answer written)
+      → Step acts halted pending owes contents own_init peer a.stand (Obeys OfWorker command.Sign os answer written)
       b.stand)
       → b.taken ≡ a.taken → last ≡ a.last
       → b.put ≡ a.put ++ tasks (channel_of (seen b.stand.end)) (fresh last (events os))
       → b.last ≡ last_of last (events os) → b.said ≡ a.said ++ owed (seen b.stand.end) false (events os)
-      → b.replied ≡ a.replied → b.allowed ≡ a.allowed ++ told ∷ [] → empty a.taken
-      → Ran acts halted pending owes seen contents own_init known empty false a b
-  ran-signed a b told due os answer written last is is-due step took at put end spoke still allowed none =
+      → b.replied ≡ a.replied → b.allowed ≡ a.allowed ++ told ∷ []
+      → b.noted ≡ a.noted ++ became false (halted a.stand.end) answer b.stand.phase (halted b.stand.end)
+      → empty a.taken
+      → Ran acts halted pending owes seen contents own_init peer empty false a b
+  ran-signed a b told due os answer written last is is-due step took at put end spoke still allowed noted none =
       let both = both-true told (owes a.stand.end) (sym is ∙ is-due) in
       ran-one false a b (Obeys OfWorker command.Sign os answer written) refl (λ _. none)
-      (turned acts halted pending owes seen contents own_init known a b
-      (Obeys OfWorker command.Sign os answer written) last (events os) _ [] (told ∷ []) (step both.1)
+      (turned acts halted pending owes seen contents own_init peer a b
+      (Obeys OfWorker command.Sign os answer written) last (events os) _ [] (told ∷ []) _ (step both.1)
       (took ∙ sym (append-nil a.taken)) at refl put end refl spoke refl (still ∙ sym (append-nil a.replied))
-      (ap (λ b. b ∷ []) both.0) allowed)
+      (ap (λ b. b ∷ []) both.0) allowed refl noted)
 
   -- a command of the book
   pub ran-asked : (a b : LoopState S W H) (channel : List ℕ) (next : ℕ) (c : Command) (os : List Output)
       (answer written : Result (Unit {0}) Refusal) (last : Option ℕ) (one two : List Saying)
-      → Step acts halted pending owes contents own_init known a.stand (Obeys OfBook c os answer written) b.stand
+      → Step acts halted pending owes contents own_init peer a.stand (Obeys OfBook c os answer written) b.stand
       → b.taken ≡ a.taken → last ≡ a.last
       → b.put ≡ a.put ++ tasks (channel_of (seen b.stand.end)) (fresh last (events os))
       → b.last ≡ last_of last (events os) → Some channel ≡ channel_of (seen a.stand.end)
@@ -507,14 +540,16 @@ module _ {S W H : Type 0} (acts : S → Act → Result (List Output) Refusal →
       → one ≡ a.said ++ took_one channel c ∷ []
       → two ≡ one ++ answered channel (answer_to (command_subject next c) answer) ∷ []
       → b.said ≡ two ++ owed (seen b.stand.end) false (events os) → b.replied ≡ a.replied → b.allowed ≡ a.allowed
-      → Ran acts halted pending owes seen contents own_init known empty false a b
+      → b.noted ≡ a.noted ++ became_unless (waits (answer_to (command_subject next c) answer)) (halted a.stand.end)
+      answer b.stand.phase (halted b.stand.end)
+      → Ran acts halted pending owes seen contents own_init peer empty false a b
   ran-asked a b channel next c os answer written last one two step took at put end is at-next first second third still
-      asked =
+      asked noted =
       ran-one false a b (Obeys OfBook c os answer written) refl (λ e. absurd cc)
-      (turned acts halted pending owes seen contents own_init known a b (Obeys OfBook c os answer written) last
+      (turned acts halted pending owes seen contents own_init peer a b (Obeys OfBook c os answer written) last
       (events os)
       ((took_one channel c ∷ answered channel (answer_to (command_subject next c) answer) ∷ [])
-      ++ owed (seen b.stand.end) false (events os)) [] [] step (took ∙ sym (append-nil a.taken)) at refl put end
+      ++ owed (seen b.stand.end) false (events os)) [] [] _ step (took ∙ sym (append-nil a.taken)) at refl put end
       (ap (λ l. l ++ owed (seen b.stand.end) false (events os))
       (asked-at (seen a.stand.end) channel next c answer is at-next))
       (third ∙ ap (λ l. l ++ owed (seen b.stand.end) false (events os))
@@ -523,13 +558,15 @@ module _ {S W H : Type 0} (acts : S → Act → Result (List Output) Refusal →
       (command_subject next c) answer) ∷ []))
       ∙ append_assoc a.said (took_one channel c ∷ answered channel (answer_to (command_subject next c) answer) ∷ [])
       (owed (seen b.stand.end) false (events os))) refl (still ∙ sym (append-nil a.replied)) refl
-      (asked ∙ sym (append-nil a.allowed)))
+      (asked ∙ sym (append-nil a.allowed))
+      (ap (λ n. became_unless (waits (answer_to (command_subject n c) answer)) (halted a.stand.end) answer b.stand.phase
+      (halted b.stand.end)) at-next) noted)
 
 -- the same of another that is the same place
 pub ran-there : {S W H P : Type 0} (acts : S → Act → Result (List Output) Refusal → S → Type 0) (halted : S → Bool)
     (pending : S → List (ℕ × ChannelEvent)) (owes : S → Bool) (seen : S → Option Seen) (contents : W → Option (List ℕ))
-    (own_init : Message) (known : List ℕ) (empty : P → List (Item W) → Type 0) (p q : P) (k : Bool)
-    (a b : LoopState S W H) → p ≡ q → Ran acts halted pending owes seen contents own_init known (empty p) k a b
-    → Ran acts halted pending owes seen contents own_init known (empty q) k a b
-ran-there acts halted pending owes seen contents own_init known empty p q k a b is ran =
-    subst (λ x. Ran acts halted pending owes seen contents own_init known (empty x) k a b) is ran
+    (own_init : Message) (peer : PeerFeatures) (empty : P → List (Item W) → Type 0) (p q : P) (k : Bool)
+    (a b : LoopState S W H) → p ≡ q → Ran acts halted pending owes seen contents own_init peer (empty p) k a b
+    → Ran acts halted pending owes seen contents own_init peer (empty q) k a b
+ran-there acts halted pending owes seen contents own_init peer empty p q k a b is ran =
+    subst (λ x. Ran acts halted pending owes seen contents own_init peer (empty x) k a b) is ran

@@ -13,6 +13,8 @@ pub mod Worker
 pub mod WorkerLoop
 pub mod Saved
 pub mod Owed
+pub mod Noted
+pub mod Features
 pub mod Reserved
 pub mod Orders
 pub mod Signing

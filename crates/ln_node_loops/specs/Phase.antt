@@ -1,14 +1,15 @@
 -- How far the connection of a worker is (BOLT 1, "The init Message").
-use Rattle.std.specs.Prelude.{◌≡◌, ◌⊎◌, ◌==◌, ◌||◌, ℕ, List, Option, Some, None, Result, Ok, Err, Bool, true, false}
+use Rattle.std.specs.Prelude.{◌≡◌, ◌⊎◌, ◌==◌, ◌||◌, ℕ, Option, Some, None, Result, Ok, Err, Bool, true, false}
 use Rattle.std.specs.Prelude.{if◌then◌else◌}
 use Rattle.ln_msgs.specs.declared.messages.message.Message.{Message}
 use Rattle.ln_msgs.specs.declared.messages.message.Message.TheVariants as message
 use Rattle.ln_msgs.specs.declared.messages.setup.Init.{Init}
-use Rattle.ln_msgs.specs.Messages.Features.{IsAllKnown, HasUnknown}
 use Rattle.ln_refusals.specs.declared.refusal.Refusal.{Refusal}
 use Rattle.ln_refusals.specs.Refusal.{refusal_number}
 use Rattle.ln_node_loops.specs.Reserved.{is_reserved}
 use Rattle.ln_node_loops.specs.Connection.{Connection}
+use Rattle.ln_node_loops.specs.Features.{Fits, Misfits}
+use Rattle.ln_node_loops.specs.declared.features.PeerFeatures.{PeerFeatures}
 use Rattle.ln_node_loops.specs.declared.item.Item.{Item}
 use Rattle.ln_node_loops.specs.declared.item.Item.TheVariants as item
 use Rattle.ln_node_loops.specs.declared.worker.Phase.{Phase}
@@ -35,24 +36,39 @@ abbrev pub init_in : Message → Option Init
 init_in (message.Init m) = Some m
 init_in m = None
 
--- the first message of a connection: init, that asks for no even feature but these, or else the connection is over
-abbrev pub Greets : List ℕ → Option Init → Phase → Type 0
-Greets known None p = p ≡ Unconnected
-Greets known (Some init) p = ((p ≡ Open) × IsAllKnown init known) ⊎ ((p ≡ Unconnected) × HasUnknown init known)
+-- the first message of a connection: an init that fits, or else the connection is over
+abbrev pub Greets : PeerFeatures → Option Init → Phase → Type 0
+Greets peer None p = p ≡ Unconnected
+Greets peer (Some init) p = ((p ≡ Open) × Fits peer init) ⊎ ((p ≡ Unconnected) × Misfits peer init)
 
 -- without a connection messages are passed over
-abbrev pub Hears : List ℕ → Phase → Message → Phase → Type 0
-Hears known Unconnected m p = p ≡ Unconnected
-Hears known AwaitsInit m p = Greets known (init_in m) p
-Hears known Open m p = p ≡ Open
+abbrev pub Hears : PeerFeatures → Phase → Message → Phase → Type 0
+Hears peer Unconnected m p = p ≡ Unconnected
+Hears peer AwaitsInit m p = Greets peer (init_in m) p
+Hears peer Open m p = p ≡ Open
 
 -- what is reserved for the book isn't ordered
-abbrev pub PassesOver : {J : Type 0} → List ℕ → Phase → Item J → Phase → Type 0
-PassesOver known p (item.Joined j) p' = p' ≡ p
-PassesOver known p (item.Read m) p' = Hears known p m p'
-PassesOver known p item.Broken p' = p' ≡ p
-PassesOver known p (item.Order c) p' = (is_reserved c ≡ true) × (p' ≡ p)
-PassesOver known p item.Stop p' = p' ≡ p
+abbrev pub PassesOver : {J : Type 0} → PeerFeatures → Phase → Item J → Phase → Type 0
+PassesOver peer p (item.Joined j) p' = p' ≡ p
+PassesOver peer p (item.Read m) p' = Hears peer p m p'
+PassesOver peer p item.Broken p' = p' ≡ p
+PassesOver peer p (item.Order c) p' = (is_reserved c ≡ true) × (p' ≡ p)
+PassesOver peer p item.Stop p' = p' ≡ p
+
+-- the peer's first message, where the connection is open by it: then it is an init
+abbrev pub first_after : Phase → Message → Option Message
+first_after Unconnected m = None
+first_after AwaitsInit m = None
+first_after Open m = Some m
+
+abbrev pub met_by : {J : Type 0} → Phase → Item J → Phase → Option Message
+met_by Unconnected i p = None
+met_by AwaitsInit (item.Joined j) p = None
+met_by AwaitsInit (item.Read m) p = first_after p m
+met_by AwaitsInit item.Broken p = None
+met_by AwaitsInit (item.Order c) p = None
+met_by AwaitsInit item.Stop p = None
+met_by Open i p = None
 
 -- ---- how far it is after one that is served
 

@@ -11,11 +11,16 @@ use Rattle.ln_channel.specs.declared.output.Output.{Output}
 use Rattle.ln_channel.specs.declared.output.Output.TheVariants as output
 use Rattle.ln_book.specs.declared.switch.saying.Saying.{Saying}
 use Rattle.ln_book.specs.Alone.{is_books}
-use Rattle.ln_book.specs.Answers.{command_subject}
+use Rattle.ln_book.specs.Answers.{command_subject, answer_to, waits}
 use Rattle.ln_book.specs.Seen.{Seen, channel_of, next_htlc}
 use Rattle.ln_node_loops.specs.Reserved.{is_reserved}
 use Rattle.ln_node_loops.specs.Owed.{owed, asked}
 use Rattle.ln_node_loops.specs.Orders.{Reply, subject_in, reply_of, replies_to}
+use Rattle.ln_node_loops.specs.declared.noted.Noted.{Noted}
+use Rattle.ln_node_loops.specs.declared.noted.Noted.TheVariants.{Tells}
+use Rattle.ln_node_loops.specs.Noted.{meets, became, became_unless, awaits_init}
+use Rattle.ln_node_loops.specs.declared.notice.Notice.TheVariants as notice
+use Rattle.ln_node_loops.specs.declared.features.PeerFeatures.{PeerFeatures}
 use Rattle.ln_node_loops.specs.declared.item.Item.{Item}
 use Rattle.ln_node_loops.specs.declared.item.Item.TheVariants as item
 use Rattle.ln_node_loops.specs.declared.task.Task.{Task}
@@ -27,6 +32,7 @@ use Rattle.ln_node_loops.specs.Act as act
 use Rattle.ln_node_loops.specs.Connection.{Connection}
 use Rattle.ln_node_loops.specs.Turn.{IsTurn, IsObeyed}
 use Rattle.ln_node_loops.specs.Phase.{is_served, PassesOver, begun, is_over, is_lost, unless_over, kept_connection}
+use Rattle.ln_node_loops.specs.Phase.{met_by}
 
 -- ---- turns
 
@@ -64,13 +70,13 @@ abbrev pub turn_of : {W : Type 0} → Bool → Item W → List Output → (answe
 turn_of true i os a b = served_turn i os a b
 turn_of false i os a b = Passes i
 
--- an order that is passed over is refused (40)
+-- an order that is passed over is refused (40), and nothing else is
 abbrev pub Declines : {W : Type 0} → Item W → Result (Unit {0}) Refusal → Type 0
-Declines (item.Joined w) a = ⊤
-Declines (item.Read m) a = ⊤
-Declines item.Broken a = ⊤
+Declines (item.Joined w) a = a ≡ Ok tt
+Declines (item.Read m) a = a ≡ Ok tt
+Declines item.Broken a = a ≡ Ok tt
 Declines (item.Order c) a = a ≡ Err refusal.NotReady
-Declines item.Stop a = ⊤
+Declines item.Stop a = a ≡ Ok tt
 
 abbrev pub load_of : {W : Type 0} → Result (Unit {0}) Refusal → List (ℕ × ChannelEvent) → Turn W
 load_of (Ok u) es = Loads es
@@ -111,7 +117,7 @@ module _ {S : Type 0} (halted : S → Bool) where
 
 module _ {S W : Type 0} (acts : S → Act → Result (List Output) Refusal → S → Type 0) (halted : S → Bool)
     (pending : S → List (ℕ × ChannelEvent)) (owes : S → Bool) (contents : W → Option (List ℕ)) (own_init : Message)
-    (known : List ℕ) where
+    (peer : PeerFeatures) where
   -- An item is served or passed over, a command of the book, an order or the worker's own is obeyed, or a halted end
   -- comes back from its record, or can't. Or there was nothing to do: it rests where it isn't to sign by itself, or
   -- where no signature is owed.
@@ -124,7 +130,7 @@ module _ {S W : Type 0} (acts : S → Act → Result (List Output) Refusal → S
       (kept_connection s.phase s.connection) i) connection
       × Leaves halted (begun s.phase i) (is_over i a) connection s'
   Step s (Passes i) s' =
-      (is_served s.phase i ≡ false) × (s'.end ≡ s.end) × PassesOver known s.phase i s'.phase
+      (is_served s.phase i ≡ false) × (s'.end ≡ s.end) × PassesOver peer s.phase i s'.phase
       × (s'.connection ≡ kept_connection s'.phase s.connection)
   Step s (Obeys by c os a w) s' =
       MayGive owes s.end by c × (connection : Option Connection)
@@ -160,19 +166,25 @@ told (Loads es) = es
 told (StaysHalted r) = []
 told (Rests allowed) = []
 
--- what one turn tells of: the channel, once both have signed its opening, the events, and the reply to an order
+-- what one turn tells of: the channel, once both have signed its opening, the events, the reply to an order, and what
+-- is noted for whoever watches
 abbrev pub News : Type 0
-News = Option (List ℕ) × List (ℕ × ChannelEvent) × List Reply
+News = Option (List ℕ) × List (ℕ × ChannelEvent) × List Reply × List Noted
 
 -- the events of all turns
 abbrev pub told_in : List News → List (ℕ × ChannelEvent)
 told_in [] = []
-told_in ((c, es, rs) ∷ ns) = es ++ told_in ns
+told_in ((c, es, rs, qs) ∷ ns) = es ++ told_in ns
 
 -- the replies of all turns
 abbrev pub replies_in : List News → List Reply
 replies_in [] = []
-replies_in ((c, es, rs) ∷ ns) = rs ++ replies_in ns
+replies_in ((c, es, rs, qs) ∷ ns) = rs ++ replies_in ns
+
+-- what is noted of all turns
+abbrev pub noted_in : List News → List Noted
+noted_in [] = []
+noted_in ((c, es, rs, qs) ∷ ns) = qs ++ noted_in ns
 
 module _ {S W : Type 0} (seen : S → Option Seen) where
   -- what is replied for a turn, by the end before it: one that is reserved for the book is no order (40)
@@ -185,6 +197,29 @@ module _ {S W : Type 0} (seen : S → Option Seen) where
   replies s (Loads es) = []
   replies s (StaysHalted r) = []
   replies s (Rests allowed) = []
+
+-- ---- what is noted
+
+-- by which init a peer is met; nobody is by an item that is served
+abbrev pub met_in : {W : Type 0} → Bool → Phase → Item W → Phase → Option Message
+met_in true p i p' = None
+met_in false p i p' = met_by p i p'
+
+module _ {S W : Type 0} (halted : S → Bool) (seen : S → Option Seen) where
+  -- what is noted of a turn
+  abbrev pub notes : Stand S → Turn W → Stand S → List Noted
+  notes s (Serves i os a) s' = became (awaits_init s.phase) (halted s.end) a s'.phase (halted s'.end)
+  notes s (Passes i) s' =
+      meets (met_by s.phase i s'.phase)
+      ++ became (awaits_init s.phase) (halted s.end) (Ok tt) s'.phase (halted s'.end)
+  notes s (Obeys OfBook c os a w) s' =
+      became_unless (waits (answer_to (command_subject (next_htlc (seen s.end)) c) a)) (halted s.end) a s'.phase
+      (halted s'.end)
+  notes s (Obeys OfUser c os a w) s' = became (awaits_init s.phase) (halted s.end) w s'.phase (halted s'.end)
+  notes s (Obeys OfWorker c os a w) s' = became false (halted s.end) a s'.phase (halted s'.end)
+  notes s (Loads es) s' = Tells notice.Loaded ∷ []
+  notes s (StaysHalted r) s' = []
+  notes s (Rests allowed) s' = []
 
 -- ---- what is owed to the book
 
@@ -231,17 +266,17 @@ may_come tried halted (Rests allowed) = true
 
 module _ {S W : Type 0} (acts : S → Act → Result (List Output) Refusal → S → Type 0) (halted : S → Bool)
     (pending : S → List (ℕ × ChannelEvent)) (owes : S → Bool) (seen : S → Option Seen) (contents : W → Option (List ℕ))
-    (own_init : Message) (known : List ℕ) where
+    (own_init : Message) (peer : PeerFeatures) where
   -- The turns lead from one stand to the other, these things are said to the book for them, in order, and they tell of
-  -- these events, each turn of those of the channel that its end has then, and of these replies. Whether a load was
-  -- tried directly before stands first.
+  -- these events, each turn of those of the channel that its end has then, of these replies and notes. Whether a load
+  -- was tried directly before stands first.
   abbrev pub Leads : Bool → Stand S → List (Turn W) → List Saying → List News → Stand S → Type 0
   Leads tried s [] words news s' = (s' ≡ s) × (words ≡ []) × (news ≡ [])
   Leads tried s (t ∷ ts) words news s' =
       (mid : Stand S) × (rest : List Saying) × (later : List News)
-      × Step acts halted pending owes contents own_init known s t mid × (may_come tried (halted s.end) t ≡ true)
+      × Step acts halted pending owes contents own_init peer s t mid × (may_come tried (halted s.end) t ≡ true)
       × (words ≡ says halted seen s.end t mid.end ++ rest)
-      × (news ≡ (channel_of (seen mid.end), told t, replies seen s.end t) ∷ later)
+      × (news ≡ (channel_of (seen mid.end), told t, replies seen s.end t, notes halted seen s t mid) ∷ later)
       × Leads (is_load t) mid ts rest later s'
 
 -- the items of turns
@@ -351,7 +386,7 @@ tasks c ((n, e) ∷ es) = task.Event c n e ∷ tasks c es
 -- those of what turns tell of and wasn't put yet
 abbrev pub tasks_of : {H : Type 0} → Option ℕ → List News → List (Task H)
 tasks_of last [] = []
-tasks_of last ((c, es, rs) ∷ ns) = tasks c (fresh last es) ++ tasks_of (last_of last es) ns
+tasks_of last ((c, es, rs, qs) ∷ ns) = tasks c (fresh last es) ++ tasks_of (last_of last es) ns
 
 -- these tasks are these events, in order, each with some channel
 abbrev pub AreEvents : {H : Type 0} → List (Task H) → List (ℕ × ChannelEvent) → Type 0
@@ -362,14 +397,15 @@ AreEvents (task.Stop ∷ ts) es = ⊥
 
 -- ---- a worker between its relay, its dispatcher and the book
 
--- what it stands for, the last number that it has put, what its seats have taken and put, what it has said to the book,
--- what it has replied to orders, and what it was told as it asked whether it is to sign by itself
+-- what it stands for, the last number that it has put, what its seats have taken and put, what it has said to the book
+-- and noted beside it, what it has replied to orders, and what it was told as it asked whether it is to sign by itself
 pub record LoopState (S W H : Type 0) : Type 0 where
   pub stand : Stand S
   pub last : Option ℕ
   pub taken : List (Item W)
   pub put : List (Task H)
   pub said : List Saying
+  pub noted : List Noted
   pub replied : List Reply
   pub allowed : List Bool
 
@@ -396,13 +432,14 @@ StopsAtOnce {W} taken taken' =
 
 module _ {S W H : Type 0} (acts : S → Act → Result (List Output) Refusal → S → Type 0) (halted : S → Bool)
     (pending : S → List (ℕ × ChannelEvent)) (owes : S → Bool) (seen : S → Option Seen) (contents : W → Option (List ℕ))
-    (own_init : Message) (known : List ℕ) where
+    (own_init : Message) (peer : PeerFeatures) where
   pub record OneTurn (a : LoopState S W H) (t : Turn W) (b : LoopState S W H) : Type 0 where
-    pub step : Step acts halted pending owes contents own_init known a.stand t b.stand
+    pub step : Step acts halted pending owes contents own_init peer a.stand t b.stand
     pub took : b.taken ≡ a.taken ++ items_of (t ∷ [])
     pub put : b.put ≡ a.put ++ tasks (channel_of (seen b.stand.end)) (fresh a.last (told t))
     pub last : b.last ≡ last_of a.last (told t)
     pub spoke : b.said ≡ a.said ++ says halted seen a.stand.end t b.stand.end
+    pub noted : b.noted ≡ a.noted ++ notes halted seen a.stand t b.stand
     pub replied : b.replied ≡ a.replied ++ replies seen a.stand.end t
     pub allowed : b.allowed ≡ a.allowed ++ asks t
 
@@ -414,20 +451,22 @@ module _ {S W H : Type 0} (acts : S → Act → Result (List Output) Refusal →
 
 module _ {S W H : Type 0} (acts : S → Act → Result (List Output) Refusal → S → Type 0) (halted : S → Bool)
     (pending : S → List (ℕ × ChannelEvent)) (owes : S → Bool) (seen : S → Option Seen) (contents : W → Option (List ℕ))
-    (own_init : Message) (known : List ℕ) (empty : List (Item W) → Type 0) where
+    (own_init : Message) (peer : PeerFeatures) (empty : List (Item W) → Type 0) where
   -- Turns led from one state of the loop to the other: their items are those that were taken, in order; put were, once
   -- each, by
-  -- channel and number, the events that they told of; said was to the book what they owe it; replied was to each
-  -- order, in their order; and it signed by itself where it was told that it is to, with nothing in its relay.
+  -- channel and number, the events that they told of; said was to the book what they owe it; noted was what has become
+  -- of the end and its connections; replied was to each order, in their order; and it signed by itself where it was
+  -- told that it is to, with nothing in its relay.
   pub record Ran (tried : Bool) (a b : LoopState S W H) : Type 0 where
     pub turns : List (Turn W)
     pub words : List Saying
     pub news : List News
-    pub leads : Leads acts halted pending owes seen contents own_init known tried a.stand turns words news b.stand
+    pub leads : Leads acts halted pending owes seen contents own_init peer tried a.stand turns words news b.stand
     pub took : b.taken ≡ a.taken ++ items_of turns
     pub put : b.put ≡ a.put ++ tasks_of a.last news
     pub last : b.last ≡ last_of a.last (told_in news)
     pub spoke : b.said ≡ a.said ++ words
+    pub noted : b.noted ≡ a.noted ++ noted_in news
     pub replied : b.replied ≡ a.replied ++ replies_in news
     pub allowed : b.allowed ≡ a.allowed ++ asked_in turns
     pub idle : FindsNone empty a.taken turns
@@ -438,6 +477,7 @@ module _ {S W H : Type 0} (acts : S → Act → Result (List Output) Refusal →
     pub mid : LoopState S W H
     pub same_stand : mid.stand ≡ a.stand
     pub took_nothing : mid.taken ≡ a.taken
+    pub noted_nothing : mid.noted ≡ a.noted
     pub replied_nothing : mid.replied ≡ a.replied
     pub asked_nothing : mid.allowed ≡ a.allowed
     pub put_pending : mid.put

@@ -9,6 +9,7 @@ ghost use Rattle.ln_channel.specs.Pending.{pending_events};
 ghost use Rattle.ln_link.specs.Record.{items_of};
 ghost use Rattle.ln_link.specs.Loading.{HasRecord, end_of};
 ghost use Rattle.ln_relay.specs.Position.{IsMergeOfAll, Position, WasEmpty};
+ghost use Rattle.ln_node_loops.specs.declared.features.PeerFeatures.{PeerFeatures};
 ghost use Rattle.ln_node_loops.specs.declared.task.Task.{Task};
 ghost use Rattle.ln_node_loops.specs.Served.{events_in, Begins};
 ghost use Rattle.ln_book.specs.declared.switch.saying.Saying.{Saying};
@@ -40,8 +41,8 @@ pub fn hooks_follow<H: Drop>()
 /// later than after those that were told before, then exactly these events are put for its dispatcher: each once, in
 /// order, none left out and none else.
 pub fn every_event_is_put<E: End + Drop, W: Closes + Drop, I: Receives<Item<W>> + Drop, H: Drop>()
-    ensures { (own_init : Message) (known : List ℕ) (place : Position I.Relay) (a b : LoopState E.State W H)
-        (began : Began E.acts E.halted E.pending E.owes E.seen W.contents own_init known (WasEmpty place) a b)
+    ensures { (own_init : Message) (peer : PeerFeatures) (place : Position I.Relay) (a b : LoopState E.State W H)
+        (began : Began E.acts E.halted E.pending E.owes E.seen W.contents own_init peer (WasEmpty place) a b)
         (event : ℕ → ChannelEvent) (first end : ℕ)
         → Tells event first (next_of first a.last) (E.pending a.stand.end ∷ map told began.ran.turns) end
         → (new : List (Task H)) × (b.put ≡ a.put ++ new)
@@ -56,8 +57,8 @@ pub fn every_order_is_replied_to<
     I: Receives<Item<W>> + Drop,
     H: Drop,
 >()
-    ensures { (own_init : Message) (known : List ℕ) (place : Position I.Relay) (a b : LoopState E.State W H)
-        (began : Began E.acts E.halted E.pending E.owes E.seen W.contents own_init known (WasEmpty place) a b)
+    ensures { (own_init : Message) (peer : PeerFeatures) (place : Position I.Relay) (a b : LoopState E.State W H)
+        (began : Began E.acts E.halted E.pending E.owes E.seen W.contents own_init peer (WasEmpty place) a b)
         → (new : List Reply) × (b.replied ≡ a.replied ++ new)
         × AreRepliesTo E.acts E.seen (orders_in (items_in began.ran.turns)) new }
 {}
@@ -70,8 +71,8 @@ pub fn the_book_alone_removes_and_forwards<
     I: Receives<Item<W>> + Drop,
     H: Drop,
 >()
-    ensures { (own_init : Message) (known : List ℕ) (place : Position I.Relay) (a b : LoopState E.State W H)
-        (began : Began E.acts E.halted E.pending E.owes E.seen W.contents own_init known (WasEmpty place) a b)
+    ensures { (own_init : Message) (peer : PeerFeatures) (place : Position I.Relay) (a b : LoopState E.State W H)
+        (began : Began E.acts E.halted E.pending E.owes E.seen W.contents own_init peer (WasEmpty place) a b)
         → RemoveByBookAlone began.ran.turns }
 {}
 
@@ -83,9 +84,9 @@ pub fn a_signature_is_owed_where_sign_is_done<K: ChannelKeys>()
 /// After a turn that couldn't write all, or that cut the connection off by another reason, nothing is written until the
 /// next connection joins: there is none to write to.
 pub fn nothing_is_written_after_a_loss<E: End + Drop, W: Closes + Drop>()
-    ensures { (own_init : Message) (known : List ℕ) (tried : Bool) (s s' : Stand E.State) (t : Turn W)
+    ensures { (own_init : Message) (peer : PeerFeatures) (tried : Bool) (s s' : Stand E.State) (t : Turn W)
         (ts : List (Turn W)) (words : List Saying) (news : List News) → cuts_off t ≡ true → JoinNone (items_in ts)
-        → Leads E.acts E.halted E.pending E.owes E.seen W.contents own_init known tried s (t ∷ ts) words news s'
+        → Leads E.acts E.halted E.pending E.owes E.seen W.contents own_init peer tried s (t ∷ ts) words news s'
         → IsCutOff s' }
 {}
 

@@ -5,9 +5,11 @@
 mod books;
 mod dispatch;
 mod end;
+mod features;
 mod item;
 mod kind;
 mod laws;
+mod noted;
 mod notice;
 mod orders;
 mod reader;
@@ -23,6 +25,7 @@ mod worker;
 pub use books::{Books, ReadsEnds};
 pub use dispatch::dispatch_loop;
 pub use end::End;
+pub use features::{PeerFeatures, offers};
 pub use item::Item;
 pub use kind::Kind;
 pub use laws::{
@@ -31,6 +34,7 @@ pub use laws::{
     the_book_alone_removes_and_forwards,
 };
 pub use ln_hooks::Table;
+pub use noted::Noted;
 pub use notice::Notice;
 pub use orders::Orders;
 pub use reader::{put, reader_loop};

@@ -9,8 +9,11 @@ pub enum Notice {
     /// A connection is over: at its end, or by this fault of a message (1 to 8), a failed read (63) or want of memory
     /// (60).
     Ended(Result<(), Fault>),
-    /// A connection was over before the peer's init had come, or that asked for features that aren't known (9).
+    /// A connection was over before the peer's init had come, or that asked for features that aren't known (9) or
+    /// lacked those that are wanted.
     NoInit,
+    /// The peer's init came, and its connection is open: `Node::peer_init` of ln_node tells it.
+    Met,
     /// The end refused a message, a command of the book or the worker's own `Sign` by this, or not all was written for
     /// a message or an order: 7, 60 or 63.
     Refused(Refusal),

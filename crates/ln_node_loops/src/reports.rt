@@ -30,7 +30,8 @@ fn report_removal<B: Books, R: Wait>(
     channel: ChannelId,
     event: &ChannelEvent,
 )
-    ensures { B.said book.new ≡ B.said book.old ++ settled channel event.now ∷ [] }
+    ensures says_the_removal { B.said book.new ≡ B.said book.old ++ settled channel event.now ∷ [] }
+    ensures notes_nothing { B.noted book.new ≡ B.noted book.old }
 {
     for _ in rt.forever() {
         match book.settled(rt, alloc, channel, event) {
@@ -49,7 +50,8 @@ fn report_settled<B: Books, R: Wait>(
     channel: ChannelId,
     event: &ChannelEvent,
 )
-    ensures { B.said book.new ≡ B.said book.old ++ settled_word channel event.now }
+    ensures says_what_is_settled { B.said book.new ≡ B.said book.old ++ settled_word channel event.now }
+    ensures notes_nothing { B.noted book.new ≡ B.noted book.old }
 {
     if is_settled(event) {
         report_removal(rt, alloc, book, channel, event);
@@ -63,7 +65,9 @@ fn report_output<B: Books, R: Wait>(
     channel: ChannelId,
     output: &Output,
 )
-    ensures { B.said book.new ≡ B.said book.old ++ settled_words channel (events (output.now ∷ [])) }
+    ensures says_what_is_settled { B.said book.new
+        ≡ B.said book.old ++ settled_words channel (events (output.now ∷ [])) }
+    ensures notes_nothing { B.noted book.new ≡ B.noted book.old }
 {
     match output {
         Output::Event(_, event) => report_settled(rt, alloc, book, channel, event),
@@ -79,7 +83,8 @@ pub(crate) fn report_outputs<B: Books, R: Wait>(
     channel: ChannelId,
     outputs: &[Output],
 )
-    ensures { B.said book.new ≡ B.said book.old ++ settled_words channel (events outputs.now) }
+    ensures says_what_is_settled { B.said book.new ≡ B.said book.old ++ settled_words channel (events outputs.now) }
+    ensures notes_nothing { B.noted book.new ≡ B.noted book.old }
 {
     for output in outputs {
         report_output(rt, alloc, book, channel, output);
@@ -94,7 +99,8 @@ pub(crate) fn report_events<B: Books, R: Wait>(
     channel: ChannelId,
     events: &[(u64, ChannelEvent)],
 )
-    ensures { B.said book.new ≡ B.said book.old ++ settled_words channel events.now }
+    ensures says_what_is_settled { B.said book.new ≡ B.said book.old ++ settled_words channel events.now }
+    ensures notes_nothing { B.noted book.new ≡ B.noted book.old }
 {
     for one in events {
         report_settled(rt, alloc, book, channel, &one.1);
@@ -110,7 +116,8 @@ pub(crate) fn report_kept<E: End, B: ReadsEnds<E>, R: Wait>(
     book: &mut B,
     end: &E,
 )
-    ensures { B.said book.new ≡ B.said book.old ++ kept_word (E.seen (E.state end.now)) }
+    ensures says_what_is_kept { B.said book.new ≡ B.said book.old ++ kept_word (E.seen (E.state end.now)) }
+    ensures notes_nothing { B.noted book.new ≡ B.noted book.old }
 {
     for _ in rt.forever() {
         match book.dropped(rt, alloc, end) {
@@ -123,7 +130,8 @@ pub(crate) fn report_kept<E: End, B: ReadsEnds<E>, R: Wait>(
 
 // Reports which payments an end takes.
 pub(crate) fn report_use<E: End, B: ReadsEnds<E>, R: Wait>(rt: &R, book: &mut B, end: &E)
-    ensures { B.said book.new ≡ B.said book.old ++ use_word (E.seen (E.state end.now)) }
+    ensures says_the_use { B.said book.new ≡ B.said book.old ++ use_word (E.seen (E.state end.now)) }
+    ensures notes_nothing { B.noted book.new ≡ B.noted book.old }
 {
     for _ in rt.forever() {
         match book.follow(rt, end) {

@@ -9,9 +9,12 @@ ghost use Rattle.ln_node_loops.specs.Owed.{kept_if, settled_at, owed, load_words
 ghost use Rattle.ln_node_loops.specs.declared.item.Item.TheVariants as item;
 ghost use Rattle.ln_node_loops.specs.WorkerLoop.{loop_state, refused_after};
 ghost use Rattle.ln_node_loops.specs.Orders.{subject_in, reply_of, replies_to};
+ghost use Rattle.ln_node_loops.specs.Noted.{meets, tells, tells_if, tells_refusal, became, became_unless, beside_reply};
+ghost use Rattle.ln_node_loops.specs.Noted.{load_notes, awaits_init, is_unconnected};
 
 use crate::books::ReadsEnds;
 use crate::end::End;
+use crate::features::PeerFeatures;
 use crate::item::Item;
 use crate::notice::Notice;
 use crate::orders::Orders;
@@ -148,7 +151,8 @@ fn report_kept_if<E: End, B: ReadsEnds<E>, R: Wait>(
     end: &E,
     drops: bool,
 )
-    ensures { B.said book.new ≡ B.said book.old ++ kept_if drops (E.seen (E.state end.now)) }
+    ensures says_what_is_kept { B.said book.new ≡ B.said book.old ++ kept_if drops (E.seen (E.state end.now)) }
+    ensures notes_nothing { B.noted book.new ≡ B.noted book.old }
 {
     if drops {
         reports::report_kept(rt, alloc, book, end);
@@ -163,7 +167,9 @@ fn settle_outputs<E: End, B: ReadsEnds<E>, R: Wait>(
     end: &E,
     outputs: &[Output],
 )
-    ensures { B.said book.new ≡ B.said book.old ++ settled_at (E.seen (E.state end.now)) (events outputs.now) }
+    ensures says_what_is_settled { B.said book.new
+        ≡ B.said book.old ++ settled_at (E.seen (E.state end.now)) (events outputs.now) }
+    ensures notes_nothing { B.noted book.new ≡ B.noted book.old }
 {
     match end.channel() {
         None => {}
@@ -179,7 +185,8 @@ fn settle_events<E: End, B: ReadsEnds<E>, R: Wait>(
     end: &E,
     told: &[(u64, ChannelEvent)],
 )
-    ensures { B.said book.new ≡ B.said book.old ++ settled_at (E.seen (E.state end.now)) told.now }
+    ensures says_what_is_settled { B.said book.new ≡ B.said book.old ++ settled_at (E.seen (E.state end.now)) told.now }
+    ensures notes_nothing { B.noted book.new ≡ B.noted book.old }
 {
     match end.channel() {
         None => {}
@@ -197,7 +204,9 @@ fn report<E: End, B: ReadsEnds<E>, R: Wait>(
     drops: bool,
     outputs: &[Output],
 )
-    ensures { B.said book.new ≡ B.said book.old ++ owed (E.seen (E.state end.now)) drops (events outputs.now) }
+    ensures says_what_is_owed { B.said book.new
+        ≡ B.said book.old ++ owed (E.seen (E.state end.now)) drops (events outputs.now) }
+    ensures notes_nothing { B.noted book.new ≡ B.noted book.old }
 {
     report_kept_if(rt, alloc, book, end, drops);
     settle_outputs(rt, alloc, book, end, outputs);
@@ -213,7 +222,8 @@ fn report_pending<E: End, B: ReadsEnds<E>, R: Wait>(
     drops: bool,
     told: &[(u64, ChannelEvent)],
 )
-    ensures { B.said book.new ≡ B.said book.old ++ owed (E.seen (E.state end.now)) drops told.now }
+    ensures says_what_is_owed { B.said book.new ≡ B.said book.old ++ owed (E.seen (E.state end.now)) drops told.now }
+    ensures notes_nothing { B.noted book.new ≡ B.noted book.old }
 {
     report_kept_if(rt, alloc, book, end, drops);
     settle_events(rt, alloc, book, end, told);
@@ -230,7 +240,9 @@ fn report_load<E: End, B: ReadsEnds<E>, R: Wait>(
     answer: Result<(), Refusal>,
     pending: &[(u64, ChannelEvent)],
 )
-    ensures { B.said book.new ≡ B.said book.old ++ load_words answer (E.seen (E.state end.now)) pending.now }
+    ensures says_what_is_owed { B.said book.new
+        ≡ B.said book.old ++ load_words answer (E.seen (E.state end.now)) pending.now }
+    ensures notes_a_load { B.noted book.new ≡ B.noted book.old ++ load_notes answer }
 {
     match answer {
         Ok(()) => {
@@ -243,7 +255,8 @@ fn report_load<E: End, B: ReadsEnds<E>, R: Wait>(
 
 // A notice, where there is one.
 fn note_one<E: End, B: ReadsEnds<E>, R: Wait>(rt: &R, book: &mut B, notice: Option<Notice>)
-    ensures { B.said book.new ≡ B.said book.old }
+    ensures says_nothing { B.said book.new ≡ B.said book.old }
+    ensures tells_it { B.noted book.new ≡ B.noted book.old ++ tells notice }
 {
     match notice {
         None => {}
@@ -251,10 +264,42 @@ fn note_one<E: End, B: ReadsEnds<E>, R: Wait>(rt: &R, book: &mut B, notice: Opti
     }
 }
 
-fn refused(answer: Result<(), Refusal>) -> Option<Notice> {
+fn refused(answer: Result<(), Refusal>) -> Option<Notice>
+    ensures { tells result ≡ tells_refusal answer }
+{
     match answer {
         Ok(()) => None,
         Err(refusal) => Some(Notice::Refused(refusal)),
+    }
+}
+
+fn awaits_init(phase: Phase) -> bool
+    ensures { result ≡ awaits_init phase }
+{
+    phase == Phase::AwaitsInit
+}
+
+fn is_unconnected(phase: Phase) -> bool
+    ensures { result ≡ is_unconnected phase }
+{
+    phase == Phase::Unconnected
+}
+
+// A notice where something is so.
+fn notice_if(is: bool, notice: Notice) -> Option<Notice>
+    ensures { tells result ≡ tells_if is notice }
+{
+    if is { Some(notice) } else { None }
+}
+
+// Notes the peer's init, where its connection is open by one.
+fn meet<E: End, B: ReadsEnds<E>, R: Wait>(rt: &R, book: &mut B, met: Option<Message>)
+    ensures says_nothing { B.said book.new ≡ B.said book.old }
+    ensures notes_it { B.noted book.new ≡ B.noted book.old ++ meets met }
+{
+    match met {
+        None => {}
+        Some(init) => book.met(rt, init),
     }
 }
 
@@ -267,13 +312,15 @@ fn note<E: End + Drop, W: Drop, B: ReadsEnds<E>, R: Wait>(
     awaited: bool,
     answer: Result<(), Refusal>,
 )
-    ensures { B.said book.new ≡ B.said book.old }
+    ensures says_nothing { B.said book.new ≡ B.said book.old }
+    ensures tells_what_became { B.noted book.new ≡ B.noted book.old
+        ++ became awaited halted answer worker.now.phase (E.halted (E.state worker.now.end)) }
 {
     note_one::<E, B, R>(rt, book, refused(answer));
-    let no_init = awaited && worker.phase == Phase::Unconnected;
-    note_one::<E, B, R>(rt, book, no_init.then_some(Notice::NoInit));
+    let no_init = awaited && is_unconnected(worker.phase);
+    note_one::<E, B, R>(rt, book, notice_if(no_init, Notice::NoInit));
     let has_halted = !halted && worker.end.is_halted();
-    note_one::<E, B, R>(rt, book, has_halted.then_some(Notice::Halted));
+    note_one::<E, B, R>(rt, book, notice_if(has_halted, Notice::Halted));
 }
 
 // Tells what has become of the end by a command of the book; nothing where the command waits.
@@ -285,7 +332,9 @@ fn note_command<E: End + Drop, W: Drop, B: ReadsEnds<E>, R: Wait>(
     waits: bool,
     answer: Result<(), Refusal>,
 )
-    ensures { B.said book.new ≡ B.said book.old }
+    ensures says_nothing { B.said book.new ≡ B.said book.old }
+    ensures tells_what_became { B.noted book.new ≡ B.noted book.old
+        ++ became_unless waits halted answer worker.now.phase (E.halted (E.state worker.now.end)) }
 {
     if !waits {
         note(rt, book, worker, halted, false, answer);
@@ -336,10 +385,16 @@ fn reply<A: Orders, R: Wait>(
 }
 
 // What is told of a turn beside the reply to an order.
-fn unreplied(subject: Option<u64>, turned: &Turned) -> Result<(), Refusal> {
+fn beside_reply(
+    subject: Option<u64>,
+    answer: Result<(), Refusal>,
+    written: Result<(), Refusal>,
+) -> Result<(), Refusal>
+    ensures { result ≡ beside_reply subject answer written }
+{
     match subject {
-        None => turned.answer,
-        Some(_) => turned.written,
+        None => answer,
+        Some(_) => written,
     }
 }
 
@@ -379,15 +434,15 @@ where
         rt: &R,
         alloc: Global,
         own_init: &Message,
-        known: &[u16],
+        peer: &PeerFeatures,
         busy: &mut bool,
     ) -> bool
     where
         T: Sends<Task<H>>,
-        ensures ran { Ran E.acts E.halted E.pending E.owes E.seen W.contents own_init.now known.now
+        ensures ran { Ran E.acts E.halted E.pending E.owes E.seen W.contents own_init.now peer.now
             (WasEmpty (I.position self.old.items)) true
-            (loop_state E.state W.contents I.taken T.put B.said A.replied A.allowed self.old)
-            (loop_state E.state W.contents I.taken T.put B.said A.replied A.allowed self.new) }
+            (loop_state E.state W.contents I.taken T.put B.said B.noted A.replied A.allowed self.old)
+            (loop_state E.state W.contents I.taken T.put B.said B.noted A.replied A.allowed self.new) }
         ensures stops { result ≡ true → I.taken self.new.items ≡ I.taken self.old.items ++ item.Stop ∷ [] }
         ensures goes_on { result ≡ false → TakesNoStop (I.taken self.old.items) (I.taken self.new.items) }
         ensures position_stays { I.position self.new.items ≡ I.position self.old.items }
@@ -400,16 +455,23 @@ where
         let breaks = is_broken(&item);
         let subject = subject_in(self.worker.end.next_id(), &item);
         let halted = self.worker.end.is_halted();
-        let awaited = self.worker.phase == Phase::AwaitsInit;
+        let awaited = awaits_init(self.worker.phase);
         *busy = true;
-        let turned = self.worker.serve(alloc, own_init, known, item);
+        let Turned {
+            outputs,
+            answer,
+            written,
+            served: _,
+            met,
+        } = self.worker.serve(alloc, own_init, peer, item);
+        meet(rt, &mut self.book, met);
         note(
             rt,
             &mut self.book,
             &self.worker,
             halted,
             awaited,
-            unreplied(subject, &turned),
+            beside_reply(subject, answer, written),
         );
         let drops = reports_kept(breaks, self.worker.end.is_halted());
         report(
@@ -418,15 +480,15 @@ where
             &mut self.book,
             &self.worker.end,
             drops,
-            turned.outputs.as_slice(),
+            outputs.as_slice(),
         );
-        reply(rt, &mut self.orders, subject, turned.answer);
+        reply(rt, &mut self.orders, subject, answer);
         self.worker.last = put_outputs(
             rt,
             &mut self.tasks,
             &self.worker.end,
             self.worker.last,
-            turned.outputs,
+            outputs,
         );
         stops
     }
@@ -437,15 +499,15 @@ where
         rt: &R,
         alloc: Global,
         own_init: &Message,
-        known: &[u16],
+        peer: &PeerFeatures,
         busy: &mut bool,
     )
     where
         T: Sends<Task<H>>,
-        ensures ran { Ran E.acts E.halted E.pending E.owes E.seen W.contents own_init.now known.now
+        ensures ran { Ran E.acts E.halted E.pending E.owes E.seen W.contents own_init.now peer.now
             (WasEmpty (I.position self.old.items)) false
-            (loop_state E.state W.contents I.taken T.put B.said A.replied A.allowed self.old)
-            (loop_state E.state W.contents I.taken T.put B.said A.replied A.allowed self.new) }
+            (loop_state E.state W.contents I.taken T.put B.said B.noted A.replied A.allowed self.old)
+            (loop_state E.state W.contents I.taken T.put B.said B.noted A.replied A.allowed self.new) }
         ensures takes_no_item { self.new.items ≡ self.old.items }
         ensures stays_busy { busy.new ≡ false → busy.old ≡ false }
     {
@@ -501,16 +563,16 @@ where
         rt: &R,
         alloc: Global,
         own_init: &Message,
-        known: &[u16],
+        peer: &PeerFeatures,
         busy: &mut bool,
     )
     where
         T: Sends<Task<H>>,
         requires was_empty { busy.old ≡ false → WasEmpty (I.position self.old.items) (I.taken self.old.items) }
-        ensures ran { Ran E.acts E.halted E.pending E.owes E.seen W.contents own_init.now known.now
+        ensures ran { Ran E.acts E.halted E.pending E.owes E.seen W.contents own_init.now peer.now
             (WasEmpty (I.position self.old.items)) false
-            (loop_state E.state W.contents I.taken T.put B.said A.replied A.allowed self.old)
-            (loop_state E.state W.contents I.taken T.put B.said A.replied A.allowed self.new) }
+            (loop_state E.state W.contents I.taken T.put B.said B.noted A.replied A.allowed self.old)
+            (loop_state E.state W.contents I.taken T.put B.said B.noted A.replied A.allowed self.new) }
         ensures takes_no_item { self.new.items ≡ self.old.items }
     {
         if *busy {
@@ -554,13 +616,13 @@ where
         rt: &R,
         alloc: Global,
         own_init: &Message,
-        known: &[u16],
+        peer: &PeerFeatures,
     )
     where
         T: Sends<Task<H>>,
-        ensures reloads { ReloadsIfHalted E.acts E.halted E.pending E.owes E.seen W.contents own_init.now known.now
-            (loop_state E.state W.contents I.taken T.put B.said A.replied A.allowed self.old)
-            (loop_state E.state W.contents I.taken T.put B.said A.replied A.allowed self.new) }
+        ensures reloads { ReloadsIfHalted E.acts E.halted E.pending E.owes E.seen W.contents own_init.now peer.now
+            (loop_state E.state W.contents I.taken T.put B.said B.noted A.replied A.allowed self.old)
+            (loop_state E.state W.contents I.taken T.put B.said B.noted A.replied A.allowed self.new) }
         ensures takes_no_item { self.new.items ≡ self.old.items }
     {
         if !self.worker.end.is_halted() {
@@ -595,12 +657,13 @@ where
 /// whether it is to sign by itself; if so it signs what is owed, so that what came together shares a signature. By
 /// itself it signs in no other case. Where it had nothing to do it waits for the wake-up, and between loads that are
 /// refused the longer, the more they are. The peer is greeted by `own_init`, an init, and its init may ask for no even
-/// feature but the known ones. It tries again where there is no memory or the dispatcher's relay is full.
+/// feature but the known ones and has to offer those that are wanted. Who watches is told what becomes of the end and
+/// its connections. It tries again where there is no memory or the dispatcher's relay is full.
 pub fn worker_loop<E, W, I, H, T, B, A, R>(
     rt: &R,
     alloc: Global,
     own_init: &Message,
-    known: &[u16],
+    peer: &PeerFeatures,
     work: WorkerLoop<E, W, I, T, B, A>,
 ) -> WorkerLoop<E, W, I, T, B, A>
 where
@@ -612,10 +675,10 @@ where
     B: ReadsEnds<E> + Drop,
     A: Orders + Drop,
     R: Wait,
-    ensures serves_all_and_tells_all { Began E.acts E.halted E.pending E.owes E.seen W.contents own_init.now known.now
+    ensures serves_all_and_tells_all { Began E.acts E.halted E.pending E.owes E.seen W.contents own_init.now peer.now
         (WasEmpty (I.position work.items))
-        (loop_state E.state W.contents I.taken T.put B.said A.replied A.allowed work)
-        (loop_state E.state W.contents I.taken T.put B.said A.replied A.allowed result) }
+        (loop_state E.state W.contents I.taken T.put B.said B.noted A.replied A.allowed work)
+        (loop_state E.state W.contents I.taken T.put B.said B.noted A.replied A.allowed result) }
 {
     let mut work = work;
     let told = work.worker.pending(rt, alloc);
@@ -633,13 +696,13 @@ where
     for _ in rt.forever() {
         let sounds = work.book.sounds();
         let mut busy = false;
-        work.reload_if_halted(rt, alloc, own_init, known);
+        work.reload_if_halted(rt, alloc, own_init, peer);
         refused = work.refused(refused);
-        if work.take_one(rt, alloc, own_init, known, &mut busy) {
+        if work.take_one(rt, alloc, own_init, peer, &mut busy) {
             return work;
         }
-        work.obey_one(rt, alloc, own_init, known, &mut busy);
-        work.sign_if_idle(rt, alloc, own_init, known, &mut busy);
+        work.obey_one(rt, alloc, own_init, peer, &mut busy);
+        work.sign_if_idle(rt, alloc, own_init, peer, &mut busy);
         work.wait(rt, sounds, refused, busy);
     }
     unreachable!()

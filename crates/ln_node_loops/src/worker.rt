@@ -5,18 +5,19 @@ ghost use Rattle.ln_node_loops.specs.Sent.{shown};
 ghost use Rattle.ln_node_loops.specs.Turn.{IsTurn};
 ghost use Rattle.ln_node_loops.specs.declared.item.Item.TheVariants as item;
 ghost use Rattle.ln_node_loops.specs.declared.worker.Phase.TheVariants as phase;
-ghost use Rattle.ln_node_loops.specs.Phase.{is_lost, is_refused, init_in, Greets};
+ghost use Rattle.ln_node_loops.specs.Phase.{is_lost, is_refused, init_in, first_after, Greets};
 ghost use Rattle.ln_node_loops.specs.declared.wire.Wire.TheVariants as wire;
 ghost use Rattle.ln_refusals.specs.declared.refusal.Refusal.TheVariants as refusal;
 ghost use Rattle.ln_node_loops.specs.Wire.{connection_at};
 
 use crate::end::End;
+use crate::features::{PeerFeatures, fits};
 use crate::item::Item;
 use crate::turn::{Obeyed, is_reserved, obey_turn, take_turn};
 use crate::wire::{Closes, Wire};
 use ln_channel::{Command, Output};
 use ln_hooks::ChannelEvent;
-use ln_msgs::{Counted, Init, Message, check_init};
+use ln_msgs::{Counted, Init, Message};
 use ln_refusals::Refusal;
 use std::alloc::Global;
 use std::sync::Wait;
@@ -58,6 +59,8 @@ pub struct Turned {
     pub written: Result<(), Refusal>,
     /// Whether the item was served.
     pub served: bool,
+    /// The peer's init, where the connection is open by it.
+    pub met: Option<Message>,
 }
 
 // Whether not all was written by a turn that answered so.
@@ -92,41 +95,56 @@ fn init_in(message: &Message) -> Option<&Init>
 }
 
 // How far a connection is after the peer's first message.
-fn phase_after(message: &Message, known: &[u16]) -> Phase
-    ensures { Greets known.now (init_in message.now) result }
+fn phase_after(message: &Message, peer: &PeerFeatures) -> Phase
+    ensures { Greets peer.now (init_in message.now) result }
 {
     match init_in(message) {
         None => Phase::Unconnected,
-        Some(init) => match check_init(init, known) {
-            Ok(()) => Phase::Open,
-            Err(_) => Phase::Unconnected,
-        },
+        Some(init) if fits(init, peer) => Phase::Open,
+        Some(_) => Phase::Unconnected,
     }
 }
 
 // An item that was served.
 fn served(outputs: Vec<Output>, answer: Result<(), Refusal>) -> Turned
-    ensures { result ≡ record { outputs = outputs; answer = answer; written = Ok tt; served = true } }
+    ensures { result
+        ≡ record { outputs = outputs; answer = answer; written = Ok tt; served = true; met = None } }
 {
     Turned {
         outputs,
         answer,
         written: Ok(()),
         served: true,
+        met: None,
     }
 }
 
 // An item that was passed over.
-fn passed(alloc: Global, answer: Result<(), Refusal>) -> Turned
+fn passed(alloc: Global, answer: Result<(), Refusal>, met: Option<Message>) -> Turned
     ensures outputs { result.outputs.items ≡ [] }
     ensures answer { result.answer ≡ answer }
+    ensures written { result.written ≡ Ok tt }
     ensures passed { result.served ≡ false }
+    ensures met { result.met ≡ met }
 {
     Turned {
         outputs: Vec::new(alloc),
         answer,
         written: Ok(()),
         served: false,
+        met,
+    }
+}
+
+// The peer's first message, where its connection is open by it.
+fn first_after(message: Message, phase: Phase) -> Option<Message>
+    ensures { result ≡ first_after phase message }
+{
+    if phase == Phase::Open {
+        Some(message)
+    } else {
+        drop(message);
+        None
     }
 }
 
@@ -135,7 +153,7 @@ impl<E: End + Drop, W: Closes + Drop> Worker<E, W> {
     ghost use Rattle.ln_node_loops.specs.Worker.{stand};
     ghost use Rattle.ln_node_loops.specs.Phase.{Hears, kept_connection};
     ghost use Rattle.ln_node_loops.specs.Turns.{Leaves, Step, turn_of, load_of, told_after, Obeys, Giver, MayGive};
-    ghost use Rattle.ln_node_loops.specs.Turns.{Declines};
+    ghost use Rattle.ln_node_loops.specs.Turns.{Declines, met_in};
 
     /// An end without a connection, none of whose events was put. Takes no memory.
     pub fn new(end: E) -> Worker<E, W>
@@ -201,11 +219,14 @@ impl<E: End + Drop, W: Closes + Drop> Worker<E, W> {
 
     // A connection.
     fn on_connect(&mut self, alloc: Global, own_init: &Message, writer: W) -> Turned
-        ensures turn { (known : List ℕ) → Step E.acts E.halted E.pending E.owes W.contents own_init.now known
+        ensures turn { (peer : PeerFeatures) → Step E.acts E.halted E.pending E.owes W.contents own_init.now peer
             (stand E.state W.contents self.old)
             (turn_of result.served (item.Joined writer) result.outputs.items result.answer result.written)
             (stand E.state W.contents self.new) }
         ensures passed { result.served ≡ false → result.outputs.items ≡ [] }
+        ensures declined { result.served ≡ false → result.answer ≡ Ok tt }
+        ensures writes_nothing_if_passed { result.served ≡ false → result.written ≡ Ok tt }
+        ensures meets { result.met ≡ met_in result.served self.old.phase (item.Joined writer) self.new.phase }
         ensures last { self.new.last ≡ self.old.last }
     {
         self.connection = Wire::Open(Counted::new(writer));
@@ -216,16 +237,16 @@ impl<E: End + Drop, W: Closes + Drop> Worker<E, W> {
     }
 
     // A message that isn't served: the first of a connection must be init; without a connection all are passed over.
-    fn on_first_message(&mut self, message: &Message, known: &[u16])
+    fn on_first_message(&mut self, message: &Message, peer: &PeerFeatures)
         ensures end { self.new.end ≡ self.old.end }
-        ensures phase { Hears known.now self.old.phase message.now self.new.phase }
+        ensures phase { Hears peer.now self.old.phase message.now self.new.phase }
         ensures connection { (stand E.state W.contents self.new).connection
             ≡ kept_connection self.new.phase (stand E.state W.contents self.old).connection }
         ensures last { self.new.last ≡ self.old.last }
     {
         self.drop_writer_if_closed();
         if self.phase == Phase::AwaitsInit {
-            match phase_after(message, known) {
+            match phase_after(message, peer) {
                 Phase::Open => self.phase = Phase::Open,
                 _ => self.close_connection(),
             }
@@ -233,18 +254,20 @@ impl<E: End + Drop, W: Closes + Drop> Worker<E, W> {
     }
 
     // A message.
-    fn read(&mut self, alloc: Global, message: Message, known: &[u16]) -> Turned
-        ensures turn { (own_init : Message) → Step E.acts E.halted E.pending E.owes W.contents own_init known.now
+    fn read(&mut self, alloc: Global, message: Message, peer: &PeerFeatures) -> Turned
+        ensures turn { (own_init : Message) → Step E.acts E.halted E.pending E.owes W.contents own_init peer.now
             (stand E.state W.contents self.old)
             (turn_of result.served (item.Read message) result.outputs.items result.answer result.written)
             (stand E.state W.contents self.new) }
         ensures passed { result.served ≡ false → result.outputs.items ≡ [] }
+        ensures declined { result.served ≡ false → result.answer ≡ Ok tt }
+        ensures writes_nothing_if_passed { result.served ≡ false → result.written ≡ Ok tt }
+        ensures meets { result.met ≡ met_in {W = W} result.served self.old.phase (item.Read message) self.new.phase }
         ensures last { self.new.last ≡ self.old.last }
     {
         if self.phase != Phase::Open {
-            self.on_first_message(&message, known);
-            drop(message);
-            return passed(alloc, Ok(()));
+            self.on_first_message(&message, peer);
+            return passed(alloc, Ok(()), first_after(message, self.phase));
         }
         let (outputs, answer) = self.turn(alloc, Item::Read(message));
         self.end_turn(is_lost(answer));
@@ -253,11 +276,14 @@ impl<E: End + Drop, W: Closes + Drop> Worker<E, W> {
 
     // The connection is lost.
     fn on_disconnect(&mut self, alloc: Global) -> Turned
-        ensures turn { (own_init : Message) (known : List ℕ)
-            → Step E.acts E.halted E.pending E.owes W.contents own_init known (stand E.state W.contents self.old)
+        ensures turn { (own_init : Message) (peer : PeerFeatures)
+            → Step E.acts E.halted E.pending E.owes W.contents own_init peer (stand E.state W.contents self.old)
             (turn_of result.served item.Broken result.outputs.items result.answer result.written)
             (stand E.state W.contents self.new) }
         ensures passed { result.served ≡ false → result.outputs.items ≡ [] }
+        ensures declined { result.served ≡ false → result.answer ≡ Ok tt }
+        ensures writes_nothing_if_passed { result.served ≡ false → result.written ≡ Ok tt }
+        ensures meets { result.met ≡ met_in {W = W} result.served self.old.phase item.Broken self.new.phase }
         ensures last { self.new.last ≡ self.old.last }
     {
         let (outputs, answer) = self.turn(alloc, Item::Broken);
@@ -267,18 +293,20 @@ impl<E: End + Drop, W: Closes + Drop> Worker<E, W> {
 
     // An order. What is reserved for the book is passed over (40).
     fn order(&mut self, alloc: Global, command: Command) -> Turned
-        ensures turn { (own_init : Message) (known : List ℕ)
-            → Step E.acts E.halted E.pending E.owes W.contents own_init known (stand E.state W.contents self.old)
+        ensures turn { (own_init : Message) (peer : PeerFeatures)
+            → Step E.acts E.halted E.pending E.owes W.contents own_init peer (stand E.state W.contents self.old)
             (turn_of result.served (item.Order command) result.outputs.items result.answer result.written)
             (stand E.state W.contents self.new) }
         ensures passed { result.served ≡ false → result.outputs.items ≡ [] }
         ensures declined { result.served ≡ false → result.answer ≡ Err refusal.NotReady }
+        ensures writes_nothing_if_passed { result.served ≡ false → result.written ≡ Ok tt }
+        ensures meets { result.met ≡ met_in {W = W} result.served self.old.phase (item.Order command) self.new.phase }
         ensures last { self.new.last ≡ self.old.last }
     {
         if is_reserved(&command) {
             drop(command);
             self.drop_writer_if_closed();
-            return passed(alloc, Err(Refusal::NotReady));
+            return passed(alloc, Err(Refusal::NotReady), None);
         }
         let Obeyed {
             outputs,
@@ -290,45 +318,48 @@ impl<E: End + Drop, W: Closes + Drop> Worker<E, W> {
             answer,
             written,
             served: true,
+            met: None,
         }
     }
 
     /// Serves an item of its relay, or passes it over: messages are passed over until the peer's init came, which may
-    /// ask for no even feature but the known ones, and orders that are reserved for the book (40). The writer is
-    /// closed where the connection is lost, where a turn couldn't write all, where the end takes no connection or has
-    /// halted, and where the peer's first message isn't such an init.
+    /// ask for no even feature but the known ones and has to offer those that are wanted, and orders that are reserved
+    /// for the book (40). The writer is closed where the connection is lost, where a turn couldn't write all, where the
+    /// end takes no connection or has halted, and where the peer's first message isn't such an init.
     pub fn serve(
         &mut self,
         alloc: Global,
         own_init: &Message,
-        known: &[u16],
+        peer: &PeerFeatures,
         item: Item<W>,
     ) -> Turned
-        ensures turn { Step E.acts E.halted E.pending E.owes W.contents own_init.now known.now
+        ensures turn { Step E.acts E.halted E.pending E.owes W.contents own_init.now peer.now
             (stand E.state W.contents self.old)
             (turn_of result.served item result.outputs.items result.answer result.written)
             (stand E.state W.contents self.new) }
         ensures passed { result.served ≡ false → result.outputs.items ≡ [] }
         ensures declined { result.served ≡ false → Declines item result.answer }
+        ensures writes_nothing_if_passed { result.served ≡ false → result.written ≡ Ok tt }
+        ensures meets { result.met ≡ met_in result.served self.old.phase item self.new.phase }
         ensures last { self.new.last ≡ self.old.last }
     {
         match item {
             Item::Joined(writer) => self.on_connect(alloc, own_init, writer),
-            Item::Read(message) => self.read(alloc, message, known),
+            Item::Read(message) => self.read(alloc, message, peer),
             Item::Broken => self.on_disconnect(alloc),
             Item::Order(command) => self.order(alloc, command),
             Item::Stop => {
                 self.drop_writer_if_closed();
-                passed(alloc, Ok(()))
+                passed(alloc, Ok(()), None)
             }
         }
     }
 
     /// A command: of the book, of an order that isn't reserved for it, or to sign what is owed.
     pub fn obey(&mut self, alloc: Global, command: Command) -> Obeyed
-        ensures turn { (by : Giver) (own_init : Message) (known : List ℕ)
+        ensures turn { (by : Giver) (own_init : Message) (peer : PeerFeatures)
             → MayGive E.owes (E.state self.old.end) by command
-            → Step E.acts E.halted E.pending E.owes W.contents own_init known (stand E.state W.contents self.old)
+            → Step E.acts E.halted E.pending E.owes W.contents own_init peer (stand E.state W.contents self.old)
             (Obeys by command result.outputs.items result.answer result.written) (stand E.state W.contents self.new) }
         ensures last { self.new.last ≡ self.old.last }
     {
@@ -354,8 +385,8 @@ impl<E: End + Drop, W: Closes + Drop> Worker<E, W> {
     /// A halted end comes back from its record, without a connection. Refused, its connection is as it was.
     pub fn load(&mut self, alloc: Global) -> Result<(), Refusal>
         requires { E.halted (E.state self.old.end) ≡ true }
-        ensures turn { (own_init : Message) (known : List ℕ)
-            → Step E.acts E.halted E.pending E.owes W.contents own_init known (stand E.state W.contents self.old)
+        ensures turn { (own_init : Message) (peer : PeerFeatures)
+            → Step E.acts E.halted E.pending E.owes W.contents own_init peer (stand E.state W.contents self.old)
             (load_of result (E.pending (E.state self.new.end))) (stand E.state W.contents self.new) }
         ensures last { self.new.last ≡ self.old.last }
     {

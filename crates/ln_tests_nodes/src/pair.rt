@@ -4,7 +4,7 @@ use ln_channel::Command;
 use ln_hooks::{Hook, HookTable};
 use ln_keys::{ChannelKeys, ToyKeys, ToyOnion};
 use ln_msgs::channel_id;
-use ln_node::{Node, Notice};
+use ln_node::{Greeting, Node, Notice};
 use ln_refusals::Refusal;
 use ln_store::MemoryStore;
 use ln_toy_channels::{KEYS, POLICY, SHORT_IDS, TXIDS, fit_config, fit_spec};
@@ -106,7 +106,7 @@ where
     R: Net<Listener = TcpListener, Stream = TcpStream> + Threads + Wait + Copy + Send + 'static,
 {
     let [_, keys, _, _] = KEYS;
-    let mut node: ToyNode = Node::new(alloc, ToyOnion, POLICY)?;
+    let mut node: ToyNode = Node::new(alloc, ToyOnion, POLICY, Greeting::usual(alloc)?)?;
     let address = listen(rt, alloc, &mut node, keys);
     with(node, address)
 }
@@ -117,7 +117,7 @@ where
     R: Net<Listener = TcpListener, Stream = TcpStream> + Threads + Wait + Copy + Send + 'static,
 {
     let [keys, _, _, _] = KEYS;
-    let mut node: ToyNode = Node::new(alloc, ToyOnion, POLICY)?;
+    let mut node: ToyNode = Node::new(alloc, ToyOnion, POLICY, Greeting::usual(alloc)?)?;
     let done = connect(rt, alloc, &mut node, keys, address);
     after(node, done)
 }

@@ -6,7 +6,7 @@ use crate::pair::{Driven, KeyedNode, listen, register, stopped};
 use ln_channel::Command;
 use ln_hooks::{Call, ChannelEvent, Hook, Verdict};
 use ln_keys::{ChannelKeys, Signed, ToyKeys, ToyOnion, View};
-use ln_node::{Node, Notice};
+use ln_node::{Greeting, Node, Notice};
 use ln_refusals::Refusal;
 use ln_toy_channels::{KEYS, POLICY, SHORT_IDS, TXIDS};
 use std::alloc::Global;
@@ -90,7 +90,10 @@ where
     K: ChannelKeys + Copy + Send + 'static,
     R: Net<Listener = TcpListener, Stream = TcpStream> + Threads + Wait + Copy + Send + 'static,
 {
-    let Ok(mut node) = Node::new(alloc, ToyOnion, POLICY) else {
+    let Ok(greeting) = Greeting::usual(alloc) else {
+        return Err(failed());
+    };
+    let Ok(mut node) = Node::new(alloc, ToyOnion, POLICY, greeting) else {
         return Err(failed());
     };
     let [first, second] = keys;

@@ -8,7 +8,7 @@ use Rattle.log.specs.declared.level.Level.TheVariants as level
 use Rattle.ln_bytes.specs.Fault.{fault_number}
 use Rattle.ln_refusals.specs.Refusal.{refusal_number}
 use Rattle.ln_node_loops.specs.declared.notice.Notice.{Notice}
-use Rattle.ln_node_loops.specs.declared.notice.Notice.TheVariants.{Ended, NoInit, Refused, OrderRefused, Halted}
+use Rattle.ln_node_loops.specs.declared.notice.Notice.TheVariants.{Ended, NoInit, Met, Refused, OrderRefused, Halted}
 use Rattle.ln_node_loops.specs.declared.notice.Notice.TheVariants.{Loaded, Held}
 use Rattle.ln_node.specs.declared.trace.Step.{Step}
 use Rattle.ln_node.specs.declared.trace.Step.TheVariants.{Took, Sent, Saved, Noticed}
@@ -45,6 +45,7 @@ step_target (Noticed notice) = codes "lnlink::notice"
 abbrev pub notice_words : Notice → List ℕ
 notice_words (Ended answer) = codes "connection ended"
 notice_words NoInit = codes "no init"
+notice_words Met = codes "peer met"
 notice_words (Refused refusal) = codes "refused"
 notice_words (OrderRefused order refusal) = codes "order refused"
 notice_words Halted = codes "halted"

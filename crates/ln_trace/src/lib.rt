@@ -6,6 +6,7 @@
 //! | A save | [`SAVE`] | debug | `saved` | `channel`, `bytes` |
 //! | A refused save | [`SAVE`] | warn | `save refused` | `channel`, `bytes`, `error` |
 //! | A lost connection | [`NOTICE`] | info | `connection ended`, `no init` | `channel`, `error` |
+//! | A peer that is met | [`NOTICE`] | info | `peer met` | `channel` |
 //! | A loaded link | [`NOTICE`] | info | `loaded` | `channel` |
 //! | A held payment | [`NOTICE`] | info | `payment held` | `channel`, `event` |
 //! | What the end refused | [`NOTICE`] | warn | `refused` | `channel`, `error` |

@@ -58,6 +58,7 @@ fn notice_words(notice: &Notice) -> &'static str
     match notice {
         Notice::Ended(_) => "connection ended",
         Notice::NoInit => "no init",
+        Notice::Met => "peer met",
         Notice::Refused(_) => "refused",
         Notice::OrderRefused(..) => "order refused",
         Notice::Halted => "halted",

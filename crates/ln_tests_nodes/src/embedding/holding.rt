@@ -10,7 +10,7 @@ use ln_hooks::{Call, ChannelEvent, FailureCode, Hook, HookTable, How, Verdict};
 use ln_keys::{ToyKeys, ToyOnion, sha256_32};
 use ln_log::Mark;
 use ln_msgs::channel_id;
-use ln_node::{HeldHtlc, Node, Notice, Stored};
+use ln_node::{Greeting, HeldHtlc, Node, Notice, Stored};
 use ln_refusals::Refusal;
 use ln_store::MemoryStore;
 use ln_toy_channels::{KEYS, POLICY, TXIDS};
@@ -57,7 +57,7 @@ where
         table,
         address: Some(address),
     })?;
-    Node::restore(rt, alloc, ToyOnion, POLICY, stored)
+    Node::restore(rt, alloc, ToyOnion, POLICY, Greeting::usual(alloc)?, stored)
 }
 
 /// How many blocks before its expiry a payment fails that still waits.

@@ -1,4 +1,4 @@
-use Rattle.std.proofs.Common.{◌≡◌, ◌++◌, Some, ap, sym, ◌∙◌, append-nil}
+use Rattle.std.proofs.Common.{◌++◌, Some, ap, sym, ◌∙◌, append-nil}
 use Rattle.ln_node.specs.Held.{numbered, with_number}
 use Rattle.ln_node.proofs.Numbering.{one-more}
 use Rattle.ln_node.proofs.held.numbered.Goals as goal

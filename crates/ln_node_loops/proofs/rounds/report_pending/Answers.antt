@@ -1,5 +1,7 @@
 use Rattle.ln_node_loops.proofs.Owing.{in-parts}
 use Rattle.ln_node_loops.proofs.rounds.report_pending.Goals as goal
 
-pub returns : goal.returns
-returns g c = in-parts _ _ _ _ _ _ _ c.report_kept_if.ensures c.settle_events.ensures c.report_use.ensures
+pub returns-clause-says_what_is_owed : goal.returns-clause-says_what_is_owed
+returns-clause-says_what_is_owed g c =
+    in-parts _ _ _ _ _ _ _ c.report_kept_if.ensures.says_what_is_kept
+    c.settle_events.ensures.says_what_is_settled c.report_use.ensures.says_the_use

@@ -9,7 +9,7 @@ use Rattle.ln_node_loops.proofs.Stopping.{stops-not, goes-on}
 use Rattle.ln_node_loops.proofs.rounds.worker_loop.Goals as goal
 
 pub loop-init : goal.loop-init
-loop-init g c = (ran-none _ _ _ _ _ _ _ _ _ _ _, refl, stops-not (g.I.Receives.taken c.args.work.items))
+loop-init g c = (ran-none _ _ _ _ _ _ _ c.args.peer.now _ _ _, refl, stops-not (g.I.Receives.taken c.args.work.items))
 
 pub returns-then-take_one : goal.returns-then-take_one
 returns-then-take_one g c =
@@ -20,6 +20,7 @@ returns-then-take_one g c =
         mid = _;
         same_stand = refl;
         took_nothing = refl;
+        noted_nothing = c.report_pending.ensures.notes_nothing;
         replied_nothing = refl;
         asked_nothing = refl;
         put_pending = c.put_events-work.ensures.put
@@ -27,12 +28,12 @@ returns-then-take_one g c =
             ++ tasks (channel_of (g.E.End.seen (g.E.End.state c.args.work.worker.end)))
             (fresh c.args.work.worker.last l)) told;
         last_pending = c.put_events-work.ensures.last ∙ ap (λ l. last_of c.args.work.worker.last l) told;
-        told_pending = c.report_pending.ensures
+        told_pending = c.report_pending.ensures.says_what_is_owed
             ∙ ap (λ l. g.B.Books.said c.args.work.book
             ++ owed (g.E.End.seen (g.E.End.state c.args.work.worker.end)) false l) (c.as_slice.ensures.value ∙ told);
-        ran = ran-on _ _ _ _ _ _ _ _ _ _ _ _ _ c.loop.invariant.0
-            (ran-mended _ _ _ _ _ _ _ _ _ _ _ _ c.reload_if_halted.ensures.reloads
-            (ran-there _ _ _ _ _ _ _ _ (λ p. WasEmpty p) _ _ _ _ _ there c.take_one.ensures.ran));
+        ran = ran-on _ _ _ _ _ _ _ c.args.peer.now _ _ _ _ _ c.loop.invariant.0
+            (ran-mended _ _ _ _ _ _ _ c.args.peer.now _ _ _ _ c.reload_if_halted.ensures.reloads
+            (ran-there _ _ _ _ _ _ _ c.args.peer.now (λ p. WasEmpty p) _ _ _ _ _ there c.take_one.ensures.ran));
         stopped = (
           g.I.Receives.taken c.loop.work.items,
           c.loop.invariant.2,
@@ -48,12 +49,13 @@ loop-preserved g c =
     let taken = c.take_one.ensures.position_stays ∙ loaded in
     let obeyed = ap g.I.Receives.position c.obey_one.ensures.takes_no_item ∙ taken in
     let signed = ap g.I.Receives.position c.sign_if_idle.ensures.takes_no_item ∙ obeyed in (
-      ran-on _ _ _ _ _ _ _ _ _ _ _ _ _ (ran-on _ _ _ _ _ _ _ _ _ _ _ _ _ (ran-on _ _ _ _ _ _ _ _ _ _ _ _ _
+      ran-on _ _ _ _ _ _ _ c.args.peer.now _ _ _ _ _ (ran-on _ _ _ _ _ _ _ c.args.peer.now _ _ _ _ _
+          (ran-on _ _ _ _ _ _ _ c.args.peer.now _ _ _ _ _
           c.loop.invariant.0
-          (ran-mended _ _ _ _ _ _ _ _ _ _ _ _ c.reload_if_halted.ensures.reloads
-          (ran-there _ _ _ _ _ _ _ _ (λ p. WasEmpty p) _ _ _ _ _ loaded c.take_one.ensures.ran)))
-          (ran-there _ _ _ _ _ _ _ _ (λ p. WasEmpty p) _ _ _ _ _ taken c.obey_one.ensures.ran))
-          (ran-there _ _ _ _ _ _ _ _ (λ p. WasEmpty p) _ _ _ _ _ obeyed c.sign_if_idle.ensures.ran),
+          (ran-mended _ _ _ _ _ _ _ c.args.peer.now _ _ _ _ c.reload_if_halted.ensures.reloads
+          (ran-there _ _ _ _ _ _ _ c.args.peer.now (λ p. WasEmpty p) _ _ _ _ _ loaded c.take_one.ensures.ran)))
+          (ran-there _ _ _ _ _ _ _ c.args.peer.now (λ p. WasEmpty p) _ _ _ _ _ taken c.obey_one.ensures.ran))
+          (ran-there _ _ _ _ _ _ _ c.args.peer.now (λ p. WasEmpty p) _ _ _ _ _ obeyed c.sign_if_idle.ensures.ran),
       signed,
       goes-on _ _ _ c.loop.invariant.2
           (subst (λ t. TakesNoStop t (g.I.Receives.taken c.take_one.new.self.items))
