@@ -42,7 +42,7 @@ use Rattle.ln_manager_channels.specs.Obeying as obeying
 use Rattle.ln_manager_channels.specs.Obeying.{Obeyed, Gives, Stops, first_of, taking}
 use Rattle.ln_manager_channels.specs.Obeying.{Concludes, ConcludesIf, ConcludesFirst, ConcludesDue, deciding, resuming}
 use Rattle.ln_manager_channels.specs.Places.{changed_by}
-use Rattle.ln_manager_calls.specs.Calls.{Parts, obeyed}
+use Rattle.ln_manager_channels.specs.Calls.{Parts, obeyed}
 use Rattle.ln_manager_calls.proofs.Due.{decided_first, first_books, resumed_first}
 use Rattle.ln_manager_calls.proofs.Kept.{View, view, Stands, Leads, lead_then, seat_changes, with_seat}
 use Rattle.ln_manager_calls.proofs.Obeying.{IsGiven, Answered, Halted, is_given, knowing_failure, sure_answer}

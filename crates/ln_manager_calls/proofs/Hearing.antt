@@ -27,7 +27,7 @@ use Rattle.ln_manager_laws.specs.Steps as step
 use Rattle.ln_manager_channels.specs.Books.{Book, with_heard, with_height}
 use Rattle.ln_manager_channels.specs.Events.{entry_at, held_by, told_event, told_in}
 use Rattle.ln_manager_channels.specs.Links.{id_by_end, working_end, working_id}
-use Rattle.ln_manager_calls.specs.Calls.{Parts, Hears}
+use Rattle.ln_manager_channels.specs.Calls.{Parts, Hears}
 use Rattle.ln_manager_calls.specs.Standing.{link_of}
 use Rattle.ln_manager_calls.proofs.Hosting.{same_lead}
 use Rattle.ln_manager_calls.proofs.Kept.{View, view, Leads, entered, lead_then}

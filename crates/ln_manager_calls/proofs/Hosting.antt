@@ -14,7 +14,7 @@ use Rattle.ln_manager_channels.specs.Commands as mine
 use Rattle.ln_manager_channels.specs.Moves.{Answer, Connects, Obeys, ObeysBy, ObeysOver, ObeysUser, store_of}
 use Rattle.ln_manager_channels.specs.Moves.{with_funding}
 use Rattle.ln_manager_channels.specs.Places.{AnswersAt, AnswersBy, AnswersBesideBy, changed_at, changed_by}
-use Rattle.ln_manager_calls.specs.Calls.{Parts, LinksAlone}
+use Rattle.ln_manager_channels.specs.Calls.{Parts, LinksAlone}
 use Rattle.ln_manager_calls.proofs.Answering.{command_left, connection_left}
 use Rattle.ln_manager_calls.proofs.Kept.{View, view, Leads, lead_none}
 use Rattle.ln_manager_calls.proofs.Seating.{drops_keeps, named_keeps}

@@ -18,7 +18,7 @@ use Rattle.ln_manager_laws.proofs.Orderly.{EachSeat, each_changed, then_or_now, 
 use Rattle.ln_manager_laws.proofs.Seats.{IsSound}
 use Rattle.ln_manager_laws.proofs.Stepping.{step_sound}
 use Rattle.ln_manager_channels.specs.Numbers.{NumbersById, number_at}
-use Rattle.ln_manager_calls.specs.Calls.{Parts}
+use Rattle.ln_manager_channels.specs.Calls.{Parts}
 use Rattle.ln_manager_calls.specs.Standing.{link_of}
 use Rattle.ln_manager_calls.proofs.Pending.{OutOnly}
 use Rattle.ln_manager_calls.proofs.Places.{stands_at, got_set, got_other, mapped_set, mapped_at, place_of}

@@ -13,8 +13,8 @@ use Rattle.ln_manager_laws.specs.Steps.{AreSteps, last_step}
 use Rattle.ln_manager_laws.specs.Runs as runs
 use Rattle.ln_manager_laws.specs.Runs.{Course, AreCourses, beginning, last_of}
 use Rattle.ln_manager_laws.proofs.Running.{one_payment, covered_stays}
-use Rattle.ln_manager_calls.specs.Calls.{Parts, Call, Makes, Make, no_parts}
-use Rattle.ln_manager_calls.specs.Calls as call
+use Rattle.ln_manager_channels.specs.Calls.{Parts, Call, Makes, Make, Running, IsOutcome, no_parts}
+use Rattle.ln_manager_channels.specs.Calls as call
 use Rattle.ln_manager_calls.specs.Standing.{StandsFor}
 use Rattle.ln_manager_calls.proofs.Deciding.{decides_next, resumes_at}
 use Rattle.ln_manager_calls.proofs.Hearing.{hears, height, follows, routes, sets}
@@ -131,3 +131,9 @@ module _ {K : Type 0} (signer : K → Signer) where
             (subst (λ z. laws.AreNumbered id_of (last_step z b.0)) (sym last) numbers)
             (subst (λ z. IsCovered id_of i (snapshot id_of z) c j) (sym last) covers)),
       )
+
+  -- ---- what began with none
+
+  pub made_of_none : (r : Running K) → IsOutcome signer r → r.began ≡ no_parts
+      → (ks : List (Call K)) × Make signer ks no_parts r.parts
+  made_of_none r is none = (is.calls, subst (λ (o : Parts K). Make signer is.calls o r.parts) none is.made)

@@ -23,7 +23,7 @@ use Rattle.ln_manager_laws.proofs.Turns.{cut_so}
 use Rattle.ln_manager_channels.specs.Books.{with_kept}
 use Rattle.ln_manager_channels.specs.Links.{end_in, is_up}
 use Rattle.ln_manager_channels.specs.Places.{changed_at, changed_by}
-use Rattle.ln_manager_calls.specs.Calls.{Parts, Adds, Loses}
+use Rattle.ln_manager_channels.specs.Calls.{Parts, Adds, Loses}
 use Rattle.ln_manager_calls.specs.Standing.{link_of}
 use Rattle.ln_manager_calls.proofs.Hosting.{same_lead}
 use Rattle.ln_manager_calls.proofs.Kept.{View, view, IsFaithful, HasNumber, Leads}

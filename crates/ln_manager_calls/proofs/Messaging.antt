@@ -27,7 +27,7 @@ use Rattle.ln_manager_channels.specs.Moves.{is_others, knowing, known_before, nu
 use Rattle.ln_manager_channels.specs.Links.{number_in}
 use Rattle.ln_manager_channels.specs.Numbers.{NumbersById, number_at, numbered}
 use Rattle.ln_manager_channels.specs.Places.{AnswersBesideBy, changed_at, changed_by}
-use Rattle.ln_manager_calls.specs.Calls.{Parts, known}
+use Rattle.ln_manager_channels.specs.Calls.{Parts, known}
 use Rattle.ln_manager_calls.proofs.Answering.{message_left}
 use Rattle.ln_manager_calls.proofs.Hosting.{same_lead}
 use Rattle.ln_manager_calls.proofs.Kept.{View, view, Stands, Reaches, Leads, at_link, lead_then, with_seat}

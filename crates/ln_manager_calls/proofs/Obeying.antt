@@ -33,7 +33,7 @@ use Rattle.ln_manager_channels.specs.Moves.{Answer, Obeys, ObeysBy, ObeysOver, s
 use Rattle.ln_manager_channels.specs.Obeying.{Obeyed, Gives, GivesBy, given_by, heard_by, ObeysBook}
 use Rattle.ln_manager_channels.specs.Obeying.{ObeysCommand, ObeysFirst, first_of, subject_in, taking}
 use Rattle.ln_manager_channels.specs.Places.{AnswersBesideBy, changed_by}
-use Rattle.ln_manager_calls.specs.Calls.{Parts, obeyed}
+use Rattle.ln_manager_channels.specs.Calls.{Parts, obeyed}
 use Rattle.ln_manager_calls.proofs.Answering.{IsMade, command_left}
 use Rattle.ln_manager_calls.proofs.Certain.{IfErr, IsBooks, IsCertain, certain}
 use Rattle.ln_manager_calls.proofs.Due.{first_books, first_due_is}

@@ -1,2 +1,2 @@
-pub mod Calls
+pub use Rattle.ln_manager_channels.specs.Calls
 pub mod Standing

@@ -6,7 +6,7 @@ use Rattle.ln_book_tables.specs.Replay.{table_of}
 use Rattle.ln_payment_circuits.specs.Snapshot.{IsIn}
 use Rattle.ln_manager_laws.specs.Calls.{Seat}
 use Rattle.ln_manager_laws.specs.Manager.{Manager}
-use Rattle.ln_manager_calls.specs.Calls.{Parts}
+use Rattle.ln_manager_channels.specs.Calls.{Parts}
 
 abbrev pub link_of : {K : Type 0} → Seat K → State K
 link_of x = x.link

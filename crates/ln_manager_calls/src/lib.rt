@@ -1,5 +1,5 @@
-//! What holds over every list of calls of a node's channels: each takes steps of a manager, of which laws hold. There
-//! is no code here.
+//! What holds of a node's channels, and over every list of their calls: each takes steps of a manager, of which laws
+//! hold. There is no code here.
 #![tactic(auto)]
 
 mod laws;

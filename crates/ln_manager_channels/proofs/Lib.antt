@@ -1,3 +1,4 @@
 mod Placed
 pub mod Obeyed
 pub mod Seated
+mod Entered

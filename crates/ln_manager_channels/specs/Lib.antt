@@ -7,3 +7,5 @@ pub mod Events
 pub mod Books
 pub mod Loading
 pub mod Obeying
+pub mod Calls
+pub mod Kept

@@ -177,6 +177,6 @@ Resumes signer s c (Some id) n v r p q = (resumption s (table_of p.book) id n v 
     × ConcludesDue signer s c id (resumes n) r.1 (resuming id n r.0 p) q
 
 -- nothing is held so, by a link that works
-abbrev pub holds_none : Services → Option (List ℕ) → ℕ → Verdict → Book → Type 0
-holds_none s None n v b = ⊤
-holds_none s (Some id) n v b = resumption s (table_of b) id n v ≡ None
+abbrev pub HoldsNone : Services → Option (List ℕ) → ℕ → Verdict → Book → Type 0
+HoldsNone s None n v b = ⊤
+HoldsNone s (Some id) n v b = resumption s (table_of b) id n v ≡ None

@@ -6,9 +6,11 @@ mod channels;
 mod commands;
 mod events;
 mod given;
+mod height;
 mod moves;
 mod newest;
 mod numbers;
+mod parts;
 mod saved;
 
 pub use channels::Channels;

@@ -2,7 +2,8 @@
 
 ghost use Rattle.std.specs.Prelude.{◌≡◌, slice_get, option_copied};
 ghost use Rattle.ln_channel.specs.State.{drops, halts};
-ghost use Rattle.ln_manager_channels.specs.Moves.{naming_in, with_funding, Connects, Takes, TakesAt, Obeys, ObeysAt};
+ghost use Rattle.ln_manager_channels.specs.Moves.{naming_in, with_funding, batched, Connects, Takes, TakesAt, Obeys};
+ghost use Rattle.ln_manager_channels.specs.Moves.{ObeysAt};
 ghost use Rattle.ln_manager_channels.specs.Places.{changed_at, AnswersAt};
 
 use crate::newest::Newest;
@@ -68,6 +69,15 @@ pub(crate) fn drop_at<K: ChannelKeys + Drop>(links: &mut Vec<Link<K>>, channel: 
 {
     if let Some(link) = links.get_mut(channel) {
         link.drop_connection();
+    }
+}
+
+/// Its record belongs to a batch.
+pub(crate) fn batch_at(records: &mut Vec<Newest>, channel: usize)
+    ensures { records.new.items ≡ changed_at channel batched records.old.items }
+{
+    if let Some(newest) = records.get_mut(channel) {
+        newest.is_fresh = false;
     }
 }
 

@@ -1,33 +1,33 @@
-use Rattle.std.proofs.Common.{◌∙◌, sym}
-use Rattle.ln_manager_channels.specs.Obeying.{deciding}
-use Rattle.ln_manager_channels.proofs.Obeyed.{same_parts, decides_so}
+use Rattle.std.proofs.Common.{slice_get}
+use Rattle.ln_manager_channels.specs.Calls as call
+use Rattle.ln_manager_channels.specs.Calls.{obeyed}
+use Rattle.ln_manager_channels.specs.Events.{next_event}
+use Rattle.ln_manager_channels.specs.Kept.{parts_of}
+use Rattle.ln_manager_channels.specs.Links.{working_end}
+use Rattle.ln_manager_channels.specs.Obeying.{Decides}
+use Rattle.ln_manager_channels.proofs.Entered.{one_more, entered, or_same}
 use Rattle.ln_manager_channels.proofs.channels.Channels.decide.Goals as goal
 
-pub returns-in-Ok-clause-decides : goal.returns-in-Ok-clause-decides
-returns-in-Ok-clause-decides g c =
-    let next = c.in-Ok-Some.next in
-    let services = g.O.Onion.services c.args.onion.now in
-    decides_so g.K.ChannelKeys.signer services c.args.channel
-    (record {
-      links = c.args.self.now.links.items;
-      records = c.args.self.now.records.items;
-      book = c.args.self.now.book;
-    })
-    (record {
-      links = c.obey_due-given.new.self.links.items;
-      records = c.obey_due-given.new.self.records.items;
-      book = c.obey_due-given.new.self.book;
-    })
-    _ next.0 next.1 next.2 c.args.verdict c.in-Ok.mark c.obey_due-given.result
-    (record {
-      links = c.decide_in_book.new.self.links.items;
-      records = c.decide_in_book.new.self.records.items;
-      book = c.decide_in_book.new.self.book;
-    })
-    (sym c.in-Ok-Some.ensures.event ∙ c.in-Ok-Some.field-0-is) c.in-Ok.ensures.answers_the_mark
-    (same_parts (deciding services next.0 next.1 next.2 c.args.verdict (record {
-      links = c.args.self.now.links.items;
-      records = c.args.self.now.records.items;
-      book = c.args.self.now.book;
-    })) _ c.decide_in_book.ensures.links_stay c.decide_in_book.ensures.records_stay c.in-Ok.ensures.decides)
-    c.obey_due-given.ensures.concludes
+pub returns-clause-enters_this_call : goal.returns-clause-enters_this_call
+returns-clause-enters_this_call g c =
+    let signer = g.K.ChannelKeys.signer in
+    let p = parts_of c.self.inside.parts in
+    let q = parts_of c.decide.new.self in
+    entered signer (call.Decide (g.O.Onion.services c.args.onion.now) c.args.channel c.args.verdict)
+    (record { began = parts_of c.self.inside.began.told.start; parts = p }) c.args.self.now q c.self.view_is
+    (or_same p q (λ v. Decides signer (g.O.Onion.services c.args.onion.now) c.args.channel
+    (next_event (working_end (slice_get p.links c.args.channel))) c.args.verdict v (obeyed p) (obeyed q))
+    c.decide.result c.decide.ensures.decides c.decide.ensures.links_stay_if_refused
+    c.decide.ensures.book_stays_if_refused c.decide.ensures.numbers_stay)
+
+pub invariant_of-self : goal.invariant_of-self
+invariant_of-self g c =
+    let signer = g.K.ChannelKeys.signer in
+    let p = parts_of c.self.inside.parts in
+    let q = parts_of c.decide.new.self in
+    one_more signer (call.Decide (g.O.Onion.services c.args.onion.now) c.args.channel c.args.verdict)
+    (parts_of c.self.inside.began.told.start) p q c.self.invariant
+    (or_same p q (λ v. Decides signer (g.O.Onion.services c.args.onion.now) c.args.channel
+    (next_event (working_end (slice_get p.links c.args.channel))) c.args.verdict v (obeyed p) (obeyed q))
+    c.decide.result c.decide.ensures.decides c.decide.ensures.links_stay_if_refused
+    c.decide.ensures.book_stays_if_refused c.decide.ensures.numbers_stay)
