@@ -191,8 +191,12 @@ impl HostNode {
         let is_first = !self.knows(&name);
         let found = found_of(alloc, found)?;
         self.manager.onion_mut().tell(&onion, &hash, found)?;
+        let was_loading = self.is_loading;
         if is_first {
             self.note_known();
+        }
+        if was_loading && !self.is_loading {
+            self.manager.turn_all(alloc);
         }
         Ok(())
     }

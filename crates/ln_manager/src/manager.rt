@@ -459,6 +459,15 @@ impl<K: ChannelKeys + Drop, O: Onion + Drop> Manager<K, O> {
         }
     }
 
+    /// Each channel has its turn again: after a load, what its book commands may have waited for onions. What lacks
+    /// memory is left, and due in the next call.
+    pub fn turn_all(&mut self, alloc: Global) {
+        for channel in 0..self.channels.len() {
+            self.due.list(channel);
+        }
+        self.go_on(alloc);
+    }
+
     // ---- calls for peers and users
 
     // What a link has answered is handed on, and what is due is done.
