@@ -9,8 +9,9 @@ import sys
 sys.path.insert(0, os.path.dirname(os.path.abspath(__file__)))
 from model import End, Refused
 
-ID = bytes([9]) * 30 + bytes([8, 11])  # of the output 258 of a transaction whose id is 32 bytes 9
 TEMPORARY, TXID, ZEROS, CHAIN = bytes([255]) * 32, bytes([9]) * 32, bytes(32), bytes([6]) * 32
+OUTPUT = 258
+ID = bytes([9]) * 30 + bytes([8, 11])  # of this output of that transaction
 # what a line doesn't say of a side: its first point's byte, dust limit, delay and depth
 OWN = {"funder": (0x11, 546, 144, 3), "fundee": (0x21, 354, 6, 7)}
 # what a line leaves out of a channel: satoshis, pushed, seed, the length of its type, and of each side its minimum, count,
@@ -189,6 +190,7 @@ class Link(End):
         self.keys, self.config, self.stage = keys, config, "accept" if role == "funder" else "open"
         self.script, self.peer_script, self.rate = config["script"], None, 253
         self.id, self.temporary = None, TEMPORARY if role == "funder" else None
+        self.funding = TXID, OUTPUT  # which a funder names
         self.points, self.last_secret = None, None  # of the peer: the points of its acknowledged commitment and of the next
         self.pending, self.sent, self.told = [], [], []
         self.line = "down"
@@ -265,11 +267,13 @@ class Link(End):
 
     def take_accept(self, m):
         wanted = channel_types(self.spec)
-        if m["temporary_id"] != TEMPORARY or (wanted and channel_types(m) != wanted):
+        if m["temporary_id"] != self.temporary or (wanted and channel_types(m) != wanted):
             raise Refused(21)
         self.agree(self.spec["funding_satoshis"], self.spec["push_msat"], self.config["limits"], asked(m), m["first_per_commitment_point"])
-        self.id, self.stage = ID, "signed"
-        self.put(encode(34, temporary_id=TEMPORARY, funding_txid=TXID, output_index=258, signature=self.first_signature()))
+        txid, output = self.funding
+        self.id, self.stage = id_of(txid, output), "signed"
+        self.put(encode(34, temporary_id=self.temporary, funding_txid=txid, output_index=output,
+                        signature=self.first_signature()))
 
     def common(self):
         """What both messages say of a side."""
@@ -290,8 +294,7 @@ class Link(End):
         if m["temporary_id"] != self.temporary:
             raise Refused(21)
         self.test_first(m["signature"])
-        index = int.from_bytes(m["funding_txid"][30:], "big") ^ m["output_index"]
-        self.id, self.stage = m["funding_txid"][:30] + index.to_bytes(2, "big"), "saved"
+        self.id, self.stage = id_of(m["funding_txid"], m["output_index"]), "saved"
         self.put(encode(35, channel_id=self.id, signature=self.first_signature()))
 
     def take_signed(self, m):
@@ -490,6 +493,11 @@ class Link(End):
 
 def refuse(refused):
     raise refused
+
+
+def id_of(txid, output):
+    """The id of a channel by its funding (BOLT 2, "Definition of `channel_id`")."""
+    return txid[:30] + (int.from_bytes(txid[30:], "big") ^ output).to_bytes(2, "big")
 
 
 def asked(m):
