@@ -17,7 +17,7 @@ use Rattle.ln_manager_channels.specs.Books.{Book, snapshots_of, with_kept}
 use Rattle.ln_manager_channels.specs.Calls.{Parts, Call, Makes, Make, Begins, IsOutcome, AreLoaded, no_parts, seats}
 use Rattle.ln_manager_channels.specs.Calls.{Running, Adds, Loses, OrSame, Hears}
 use Rattle.ln_manager_channels.specs.Links.{end_in, is_up}
-use Rattle.ln_manager_channels.specs.Loading.{Seats, SeatsAll, no_seats}
+use Rattle.ln_manager_channels.specs.Loading.{SeatsAll}
 use Rattle.ln_manager_channels.specs.Numbers.{NumbersById}
 use Rattle.ln_manager_channels.specs.Places.{changed_at}
 

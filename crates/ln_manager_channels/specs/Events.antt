@@ -17,11 +17,6 @@ abbrev pub event_count : Option End → ℕ
 event_count None = 0
 event_count (Some e) = min (e.ledger.decided + length e.ledger.undecided) (2 ^ 64 - 1)
 
--- how many it has decided
-abbrev pub decided_count : Option End → ℕ
-decided_count None = 0
-decided_count (Some e) = e.ledger.decided
-
 -- ---- the first one
 
 abbrev pub first_named : List EventRef → End → Option ChannelEvent

@@ -63,9 +63,10 @@ impl Greeting {
         Ok(())
     }
 
-    /// The usual one, which the field's peers take: it offers data loss protection, gossip queries, onions with a
-    /// payload of any length, static remote keys, payment secrets, a shutdown to any segwit version and channel types,
-    /// knows what a peer may ask of these, and wants none. It names no network. Takes memory.
+    /// The usual one, with what Electrum's wallet asks of a peer: it offers data loss protection, gossip queries,
+    /// onions with a payload of any length, static remote keys, payment secrets, a shutdown to any segwit version and
+    /// channel types, knows what a peer may ask of these, and wants none. It names no network, and gossip queries are
+    /// read past without an answer. Takes memory.
     ///
     /// Error: 60 alone.
     pub fn usual(alloc: Global) -> Result<Greeting, Refusal>
