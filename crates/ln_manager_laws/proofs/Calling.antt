@@ -85,8 +85,13 @@ module _ {K : Type 0} where
         (opens id_of one x y m n g h.apart an c.0 (based e) was now c.1 (begins e was now)) htlcs)
     gives (Turns e f s plain channel was now) =
         let c = numbers y (is_there x y m n g) (based f) now in
-        Happened (may.Turns c.0 e f s (plain tt)
-        (goes id_of one x y m n g h.apart an c.0 e (based f) was now (sym channel ∙ c.1) channel w.halted) htlcs)
+        cases c.0 c.1 w.works
+      where
+        cases : (c : ℕ) → (based f).dance.channel ≡ id_of c → (y.end ≡ x.end) ⊎ (x.link.halted ≡ false)
+            → Gives id_of (snapshot id_of m) (snapshot id_of n)
+        cases c at (inl same) = Same (seat_same id_of one x y m n g h.apart an same (λ d is. w.halted) htlcs)
+        cases c at (inr works) = Happened (may.Turns c e f s (plain tt)
+            (goes id_of one x y m n g h.apart an c e (based f) was now (sym channel ∙ at) channel works w.halted) htlcs)
 
     dated_now : Becomes (Unit {0}) x.end y.end → IsDated m.book.htlcs y
     dated_now (Stays same) e works z m_in at =

@@ -46,6 +46,7 @@ use Rattle.ln_payment_circuits.specs.Snapshot.{IsIn, NonePasses}
 use Rattle.ln_payment_circuits.specs.Happens.{HasOwnIds, IsOnFirst}
 use Rattle.ln_payment_circuits.specs.Happens as may
 use Rattle.ln_payment_circuits.proofs.Law.{noted as noted_so}
+use Rattle.ln_payment_circuits.proofs.Answers.{others_of}
 use Rattle.ln_payment_circuits.proofs.Entries.{is_same, same_is}
 use Rattle.ln_payment_circuits.proofs.Held.{among_last}
 use Rattle.ln_payment_circuits.proofs.Lists.{either, of_picked, among_changed}
@@ -262,7 +263,8 @@ module _ {K : Type 0} (signer : K → Signer) (id_of : ℕ → List ℕ) (one : 
       channel_is = ap (λ (z : Decided). z.channel) d_is ∙ at;
       first = ap (first_htlc e.dance.log) next.undecided ∙ first_offers e next.first told o next.is is;
       does_something = λ none. mark_does v m.book e.ledger.decided o verdict (sym (mark_is (Some o) is) ∙ none);
-      none_of_it = subst (λ k. NonePasses (is_told k d.event) hs) at (none_told x_in);
+      no_other = others_of (is_told (id_of c) d.event) (is_htlc (htlc_of d o).key) hs
+          (subst (λ k. NonePasses (is_told k d.event) hs) at (none_told x_in));
     }
 
     -- it is there, or new
@@ -366,7 +368,7 @@ module _ {K : Type 0} (signer : K → Signer) (id_of : ℕ → List ℕ) (one : 
 
           go : may.Goes b.number.0 (Some e) (based k.turn.end) (snapshot id_of m) (snapshot id_of n)
           go = goes id_of one x seat m n g h.apart b.apart b.number.0 e (based k.turn.end) works.end end b.number.1
-              channel b.hosted.halted
+              channel works.halted b.hosted.halted
 
           later : (f : End) → Works seat f → e.ledger.decided < f.ledger.decided
           later f w =

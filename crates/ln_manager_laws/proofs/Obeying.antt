@@ -216,7 +216,7 @@ module _ {K : Type 0} (signer : K → Signer) (id_of : ℕ → List ℕ) (one : 
         leaves_by id_of x now m n g h b.hosted.sound b.apart b.keeps
         (Happened (may.Obeys v keys b.number.0 e z o y k.turn m.book.queue asks_so k.row
         (goes id_of one x now m n g h.apart b.apart b.number.0 e (based k.turn.end) works.end end b.number.1 channel
-        b.hosted.halted)
+        works.halted b.hosted.halted)
         (htlcs ∙ ap (λ c. taken_by c (next_own_id e) o m.book.queue m.book.htlcs) b.number.1)))
         (kin_as m.book.htlcs (taken_by ch (next_own_id e) o m.book.queue m.book.htlcs) n.book.htlcs htlcs
         (kin_taken ch (next_own_id e) o m.book.queue m.book.htlcs))

@@ -113,7 +113,7 @@ module _ {K : Type 0} (signer : K → Signer) (id_of : ℕ → List ℕ) (one : 
       leaves_by id_of x seat m n g h b.hosted.sound b.apart b.keeps
       (Happened (may.Resumes b.number.0 e i w k.turn k.row
       (goes id_of one x seat m n g h.apart b.apart b.number.0 e (based k.turn.end) works.end end b.number.1 channel
-      b.hosted.halted)
+      works.halted b.hosted.halted)
       (htlcs ∙ ap (λ q. resumed_by ch i q m.book.htlcs) queued ∙ ap (λ c. with_mark c i w m.book.htlcs) b.number.1)))
       (kin_as m.book.htlcs (taken_by ch subject (out.Resuming i) with_it.queue m.book.htlcs) n.book.htlcs htlcs
       (kin_taken ch subject (out.Resuming i) with_it.queue m.book.htlcs))

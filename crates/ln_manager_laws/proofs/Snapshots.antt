@@ -81,16 +81,22 @@ module _ {K : Type 0} where
             (ap (has_id (id_of d)) was ∙ other_number id_of one c d e at isnt)
             (ap (has_id (id_of d)) is ∙ other_number id_of one c d f (channel ∙ at) isnt)
 
-        pub goes : y.link.halted ≡ x.link.halted → Goes c (Some e) f (snapshot id_of m) (snapshot id_of n)
-        goes halted = record {
+        pub halted_same : y.link.halted ≡ x.link.halted → (d : ℕ)
+            → (snapshot id_of n).halted d ≡ (snapshot id_of m).halted d
+        halted_same halted d = elim (either (d == c)) [
+          | inr isnt ↦ ap halted_in (there_still d isnt)
+          | inl it ↦ subst (λ i. halted_in (seat_of (id_of i) n.seats) ≡ halted_in (seat_of (id_of i) m.seats))
+              (sym (eqb-true d c it)) (ap halted_in here_now.now ∙ halted ∙ sym (ap halted_in here_now.before))
+        ]
+
+        pub goes : x.link.halted ≡ false → y.link.halted ≡ x.link.halted
+            → Goes c (Some e) f (snapshot id_of m) (snapshot id_of n)
+        goes works halted = record {
+          awake = ap halted_in here_now.before ∙ works;
           before = ap end_in here_now.before ∙ was;
           now = ap end_in here_now.now ∙ is;
           others = λ d isnt. ap end_in (there_still d isnt);
-          halted = λ d. elim (either (d == c)) [
-            | inr isnt ↦ ap halted_in (there_still d isnt)
-            | inl it ↦ subst (λ i. halted_in (seat_of (id_of i) n.seats) ≡ halted_in (seat_of (id_of i) m.seats))
-                (sym (eqb-true d c it)) (ap halted_in here_now.now ∙ halted ∙ sym (ap halted_in here_now.before))
-          ];
+          halted = halted_same halted;
         }
 
         pub loses : f ≡ end_dropped e → Loses (is_of c) (snapshot id_of m) (snapshot id_of n)
@@ -113,15 +119,12 @@ module _ {K : Type 0} where
               ∙ sym (ap (λ b. b || halted_in (seat_of (id_of d) m.seats)) it))
         ]
 
-        pub halted_same : y.link.halted ≡ x.link.halted → (d : ℕ)
-            → (snapshot id_of n).halted d ≡ (snapshot id_of m).halted d
-        halted_same halted = (goes halted).halted
-
       -- ---- a channel is opened
 
       pub opens : (c : ℕ) (f : End) → x.end ≡ None → y.end ≡ Some f → f.dance.channel ≡ id_of c
           → y.link.halted ≡ false → Goes c None f (snapshot id_of m) (snapshot id_of n)
       opens c f was is at works = record {
+        awake = ap halted_in none;
         before = ap end_in none;
         now = ap end_in found ∙ is;
         others = λ d isnt. ap end_in (off d isnt);

@@ -1,7 +1,7 @@
 -- The law over every list of moves.
 use Rattle.std.proofs.Common.{◌≡◌, inr, ℕ, List, [], ◌∷◌, Bool, true, false, refl, Option, Some}
 use Rattle.std.proofs.Common.{None, arith}
-use Rattle.std.specs.Prelude.{not, cond, length, ◌≤◌, if◌then◌else◌}
+use Rattle.std.specs.Prelude.{not, cond, length, ◌≤◌, ◌==◌, ◌&&◌, if◌then◌else◌}
 use Rattle.ln_payment.specs.Parts.{Answer, By, Decided, Decision, Each, Forward, RemovalRefused, HasEnded, Hold, IsAt}
 use Rattle.ln_payment.specs.Parts.{IsHeld, Kind, Mark, NoRemoval, Note, Absent, Offered, Open, Out, Resolved, Past}
 use Rattle.ln_payment.specs.Parts.{Payment, Proposed, Refused, Removal, RemovalSent, Undecided, begun}
@@ -91,6 +91,18 @@ decide m Undecided r os e h a k = moves.kept_decide m r os e h k
 decide m (Decided n) r os e h a k = absurd (cc a)
 decide m Past r os e h a k = absurd (cc a)
 
+take : (m : Mark) (d : Decision) (r : Removal) (os : List Out) (e : Option Note) (h : ℕ → Bool) → d ≡ Undecided
+    → Kept d r os e h → Kept (Decided m) r os e h
+take m Undecided r os e h a k = moves.kept_take m r os e h k
+take m (Decided n) r os e h a k = absurd (cc a)
+take m Past r os e h a k = absurd (cc a)
+
+hear : (m : Mark) (d : Decision) (r : Removal) (os : List Out) (e : Option Note) (h : ℕ → Bool) → IsDecided m d
+    → e ≡ None → r ≡ NoRemoval → Kept d r os e h → Kept d r os (Some (machine.begun_note m)) h
+hear m Undecided r os e h a b z k = absurd a
+hear m (Decided n) r os e h a b z k = moves.kept_hear m n r os e h a b z k
+hear m Past r os e h a b z k = absurd a
+
 resume : (m : Mark) (d : Decision) (r : Removal) (os : List Out) (e : Option Note) (h : ℕ → Bool) → IsDecided Hold d
     → Kept d r os e h → Kept (Decided m) r os (machine.with_mark m e) h
 resume m Undecided r os e h a k = absurd a
@@ -99,10 +111,17 @@ resume m (Decided Hold) r os e h a k = moves.kept_resume m r os e h k
 resume m (Decided (Answer n)) r os e h a k = absurd (cc a)
 resume m Past r os e h a k = absurd a
 
+reload : (c : ℕ) (d : Decision) (r : Removal) (os : List Out) (e : Option Note) (h : ℕ → Bool)
+    → machine.Stays c e os → Kept d r os e h → Kept d r os e (λ b. not (b == c) && h b)
+reload c d r os None h a k = moves.kept_reload_none c d r os h k
+reload c d r os (Some f) h a k = moves.kept_reload c d r os f h a k
+
 -- ---- the law
 
 pub kept : (v : Move) (p : Payment) → MayMove v p → IsKept p → IsKept (moved v p)
 kept (machine.Decide m) p a k = decide m p.decision p.removal p.outs p.note p.halted a k
+kept (machine.Take m) p a k = take m p.decision p.removal p.outs p.note p.halted a k
+kept (machine.Hear m) p a k = hear m p.decision p.removal p.outs p.note p.halted (a.0) (a.1) (a.2) k
 kept (machine.Resume m) p a k = resume m p.decision p.removal p.outs p.note p.halted a k
 kept (machine.Offer c i) p a k = offer c i p.decision p.removal p.outs p.note p.halted a k
 kept machine.Refuse p a k = refuse p.decision p.removal p.outs p.note p.halted a k
@@ -123,6 +142,7 @@ kept (machine.PutBack c i) p a k = put_incoming c i p.decision p.removal p.outs 
 kept machine.DropRemoval p a k = moves.kept_drop_removal p.decision p.removal p.outs p.note p.halted k
 kept machine.Reopen p a k = reopen p.decision p.removal p.outs p.note p.halted a k
 kept (machine.Halt c) p a k = moves.kept_halt c p.decision p.removal p.outs p.note p.halted k
+kept (machine.Reload c) p a k = reload c p.decision p.removal p.outs p.note p.halted a k
 kept (machine.Restart t) p a k = kept_restart t p.decision p.removal p.outs p.note p.halted k
 
 pub kept_begun : IsKept begun

@@ -1,7 +1,7 @@
 -- Each move keeps what is kept of a payment.
 use Rattle.std.proofs.Common.{◌≡◌, ◌⊎◌, inl, inr, ℕ, List, [], ◌∷◌, Bool, true, false, ◌||◌, ◌==◌, refl, ap, sym}
 use Rattle.std.proofs.Common.{subst, ◌∙◌, Option, Some, None}
-use Rattle.std.specs.Prelude.{if◌then◌else◌}
+use Rattle.std.specs.Prelude.{if◌then◌else◌, not, ◌&&◌}
 use Rattle.std.proofs.lemmas.Bool.{eqb-true}
 use Rattle.ln_payment.specs.Parts.{Among, Answer, IncomingLeg, By, Course, Covered, Decided, Decision, Each, Ended}
 use Rattle.ln_payment.specs.Parts.{Forward, RemovalRefused, HasEnded, Held, Hold, IsAt, IsEnd, IsHeld, Kind, Mark}
@@ -40,6 +40,47 @@ kept_decide m NoRemoval [] e h k = record {
 }
 kept_decide m NoRemoval (o ∷ os) e h k = absurd (cc (k.early.1))
 kept_decide m (By j s) os e h k = absurd (cc (k.early.0))
+
+-- first by the channel, and then by the book
+pub kept_take : (m : Mark) (r : Removal) (os : List Out) (e : Option Note) (h : ℕ → Bool) → Kept Undecided r os e h
+    → Kept (Decided m) r os e h
+kept_take m NoRemoval [] None h k = record {
+  one = tt;
+  early = tt;
+  forwards = inr tt;
+  waits = waits_none (Decided m);
+  follows = tt;
+  results = inr tt;
+  knows = inr refl;
+  offered = tt;
+  over = tt;
+  not_again = tt;
+  settled = tt;
+  marks = inr tt;
+}
+kept_take m NoRemoval [] (Some f) h k = absurd (cc (k.early.2))
+kept_take m NoRemoval (o ∷ os) e h k = absurd (cc (k.early.1))
+kept_take m (By j s) os e h k = absurd (cc (k.early.0))
+
+pub kept_hear : (m n : Mark) (r : Removal) (os : List Out) (e : Option Note) (h : ℕ → Bool) → n ≡ m → e ≡ None
+    → r ≡ NoRemoval → Kept (Decided n) r os e h → Kept (Decided n) r os (Some (noted m Absent Open)) h
+kept_hear m n r os (Some f) h is none nothing k = absurd (cc none)
+kept_hear m n (By j s) os None h is none nothing k = absurd (cc nothing)
+kept_hear m n NoRemoval (o ∷ os) None h is none nothing k = absurd (cc (second_of (λ x. x) (k.knows)))
+kept_hear m n NoRemoval [] None h is none nothing k = record {
+  one = tt;
+  early = tt;
+  forwards = inr tt;
+  waits = waits_none (Decided n);
+  follows = tt;
+  results = inr tt;
+  knows = inr tt;
+  offered = tt;
+  over = tt;
+  not_again = again_none m Absent Open;
+  settled = tt;
+  marks = inr is;
+}
 
 pub kept_resume : (m : Mark) (r : Removal) (os : List Out) (e : Option Note) (h : ℕ → Bool)
     → Kept (Decided Hold) r os e h → Kept (Decided m) r os (with_mark m e) h
@@ -642,3 +683,45 @@ kept_halt c d r os None h k = losing (is_of c) d r os None h (λ b. (b == c) || 
 kept_halt c d r os (Some f) h k =
     losing (is_of c) d r os (Some f) h (λ b. (b == c) || h b) (halted_outgoing c f.outgoing os h (k.offered))
     (lists.over_kept (is_of c) f.outgoing os (k.over)) k
+
+-- ---- a link comes back from its record, beside its book
+
+reloaded_here : (c b j : ℕ) (os : List Out) (h : ℕ → Bool) → (b ≡ c → Among (IsAt b j) os)
+    → (h b ≡ true) ⊎ Among (IsAt b j) os → ((b == c) ≡ true) ⊎ ((b == c) ≡ false)
+    → ((not (b == c) && h b) ≡ true) ⊎ Among (IsAt b j) os
+reloaded_here c b j os h a k (inl t) = inr (a (eqb-true b c t))
+reloaded_here c b j os h a (inl k) (inr f) = inl (ap (λ x. not x && h b) f ∙ k)
+reloaded_here c b j os h a (inr k) (inr f) = inr k
+
+reloaded_outgoing : (c : ℕ) (w : OutgoingLeg) (os : List Out) (h : ℕ → Bool) → OutgoingStays c w os → IsOffered w os h
+    → IsOffered w os (λ b. not (b == c) && h b)
+reloaded_outgoing c Absent os h a k = tt
+reloaded_outgoing c Refused os h a k = tt
+reloaded_outgoing c (Offered b j) os h a k = reloaded_here c b j os h a k (either (b == c))
+reloaded_outgoing c (Resolved b j g) os h a k = tt
+
+waking : (d : Decision) (r : Removal) (os : List Out) (e : Option Note) (h g : ℕ → Bool)
+    → ForNote (λ x. IsOffered x.outgoing os g) e → Kept d r os e h → Kept d r os e g
+waking d r os e h g a k = record {
+  one = k.one;
+  early = k.early;
+  forwards = k.forwards;
+  waits = k.waits;
+  follows = k.follows;
+  results = k.results;
+  knows = k.knows;
+  offered = a;
+  over = k.over;
+  not_again = k.not_again;
+  settled = k.settled;
+  marks = k.marks;
+}
+
+pub kept_reload : (c : ℕ) (d : Decision) (r : Removal) (os : List Out) (f : Note) (h : ℕ → Bool)
+    → OutgoingStays c f.outgoing os → Kept d r os (Some f) h → Kept d r os (Some f) (λ b. not (b == c) && h b)
+kept_reload c d r os f h a k =
+    waking d r os (Some f) h (λ b. not (b == c) && h b) (reloaded_outgoing c f.outgoing os h a (k.offered)) k
+
+pub kept_reload_none : (c : ℕ) (d : Decision) (r : Removal) (os : List Out) (h : ℕ → Bool) → Kept d r os None h
+    → Kept d r os None (λ b. not (b == c) && h b)
+kept_reload_none c d r os h k = waking d r os None h (λ b. not (b == c) && h b) tt k

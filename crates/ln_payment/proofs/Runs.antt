@@ -1,8 +1,9 @@
 -- Runs that show that the moves can be made, and what a rebuild reads of them.
 use Rattle.std.proofs.Common.{◌≡◌, List, [], ◌∷◌, true, false, refl, Some, None, take}
 use Rattle.ln_payment.specs.Parts.{Covered, Fails, Forward, Hold, Offered, Open, Refused, RemovalSent, begun}
-use Rattle.ln_payment.specs.Moves.{AreMade, Clear, Close, Decide, End, Forget, Halt, HoldRemoval, Move, Offer}
-use Rattle.ln_payment.specs.Moves.{Refuse, Remove, Restart, Resume, Settle, SignOuts, SignRemoval, Tell, after}
+use Rattle.ln_payment.specs.Moves.{AreMade, Clear, Close, Decide, End, Forget, Halt, Hear, HoldRemoval, Move, Offer}
+use Rattle.ln_payment.specs.Moves.{PutBack, Refuse, Reload, Remove, Restart, Resume, Settle, SignOuts, SignRemoval}
+use Rattle.ln_payment.specs.Moves.{Take, Tell, after}
 use Rattle.ln_payment.specs.Moves.{IsTold}
 
 -- an add that is offered and lost before it is signed is offered again
@@ -68,3 +69,23 @@ halted_made = (refl, (tt, (tt, (tt, (tt, (tt, tt))))))
 
 halted_outs : (after halted begun).outs ≡ record { channel = 2; id = 0; course = Covered } ∷ []
 halted_outs = refl
+
+-- or it is loaded beside the book, which hears first that the add is lost
+abbrev reloaded : List Move
+reloaded = Decide Forward ∷ Offer 1 0 ∷ Halt 1 ∷ PutBack 1 0 ∷ Reload 1 ∷ Offer 1 0 ∷ SignOuts 1 ∷ []
+
+reloaded_made : AreMade reloaded begun
+reloaded_made = (refl, (tt, (tt, (((refl, refl), tt), (tt, (tt, (tt, tt)))))))
+
+reloaded_outs : (after reloaded begun).outs ≡ record { channel = 1; id = 0; course = Covered } ∷ []
+reloaded_outs = refl
+
+-- a channel has kept a decision of which the book hears as it is loaded
+abbrev heard : List Move
+heard = Take Forward ∷ Halt 2 ∷ Hear Forward ∷ Reload 2 ∷ Offer 1 0 ∷ SignOuts 1 ∷ []
+
+heard_made : AreMade heard begun
+heard_made = (refl, (tt, ((refl, refl, refl), (tt, (tt, (tt, tt))))))
+
+heard_outs : (after heard begun).outs ≡ record { channel = 1; id = 0; course = Covered } ∷ []
+heard_outs = refl

@@ -1,5 +1,5 @@
 -- How a payment moves: what the node's links and its book do about its HTLC, when each may be, and what it makes of it.
-use Rattle.std.specs.Prelude.{◌≡◌, ℕ, List, [], ◌∷◌, Bool, true, false, ◌==◌, ◌&&◌, ◌||◌, map, if◌then◌else◌}
+use Rattle.std.specs.Prelude.{◌≡◌, ℕ, List, [], ◌∷◌, Bool, true, false, not, ◌==◌, ◌&&◌, ◌||◌, map, if◌then◌else◌}
 use Rattle.std.specs.Prelude.{Option, Some, None}
 use Rattle.ln_payment.specs.Parts.{Kind, Fails, Mark, Forward, Hold, Answer, Decision, Undecided, Decided, Past}
 use Rattle.ln_payment.specs.Parts.{Proposed, Signed, Held, Removal, NoRemoval, By}
@@ -12,6 +12,8 @@ use Rattle.ln_payment.specs.Rebuild.{kept_outs, kept_removal, settled_note, rest
 pub data Move : Type 0 where
   -- of the decision
   Decide : (m : Mark) → Move
+  Take : (m : Mark) → Move  -- the channel decides, and the book hears of that later
+  Hear : (m : Mark) → Move
   Resume : (m : Mark) → Move  -- what is held is decided
   Clear : Move  -- the decision leaves the record
   -- of the HTLC that goes out
@@ -34,8 +36,9 @@ pub data Move : Type 0 where
   PutBack : (c i : ℕ) → Move  -- unsigned adds of this channel, and the book hears that the one it offered is gone
   DropRemoval : Move  -- an unsigned removal
   Reopen : Move  -- the book hears of that
-  -- what wants memory, and a restart
+  -- what wants memory, a load and a restart
   Halt : (c : ℕ) → Move  -- this link loses its connection and answers nothing more; the book doesn't hear of that
+  Reload : (c : ℕ) → Move  -- it comes back from its record beside the book, which has heard what it lost
   Restart : (still : Bool) → Move  -- of the node; whether the records still have an add that ended and was forgotten
 
 -- ---- what the book asks for
@@ -114,6 +117,8 @@ IsLost c i n os = NoteIsAt c i n × Each (λ o. IsAt c i o → ⊥) os
 
 abbrev pub MayMove : Move → Payment → Type 0
 MayMove (Decide m) p = p.decision ≡ Undecided
+MayMove (Take m) p = p.decision ≡ Undecided
+MayMove (Hear m) p = IsDecided m p.decision × (p.note ≡ None) × (p.removal ≡ NoRemoval)
 MayMove (Resume m) p = IsDecided Hold p.decision
 MayMove Clear p = IsHeld p.removal
 MayMove (Offer c i) p = Offers p.note
@@ -134,6 +139,7 @@ MayMove (PutBack c i) p = IsLost c i p.note (kept_outs (is_of c) p.outs)
 MayMove DropRemoval p = Unit {0}
 MayMove Reopen p = p.removal ≡ NoRemoval
 MayMove (Halt c) p = Unit {0}
+MayMove (Reload c) p = Stays c p.note p.outs
 MayMove (Restart still) p = Unit {0}
 
 -- ---- what a move makes of a payment
@@ -197,6 +203,8 @@ settled (Some n) = settled_note n.mark n.outgoing
 
 abbrev pub moved : Move → Payment → Payment
 moved (Decide m) p = record p { decision = Decided m; note = Some (begun_note m) }
+moved (Take m) p = record p { decision = Decided m }
+moved (Hear m) p = record p { note = Some (begun_note m) }
 moved (Resume m) p = record p { decision = Decided m; note = with_mark m p.note }
 moved Clear p = record p { decision = Past }
 moved (Offer c i) p = record p {
@@ -220,6 +228,7 @@ moved (PutBack c i) p = record p { outs = kept_outs (is_of c) p.outs; note = wit
 moved DropRemoval p = record p { removal = kept_removal p.removal }
 moved Reopen p = record p { note = with_incoming Open p.note }
 moved (Halt c) p = record p { outs = kept_outs (is_of c) p.outs; halted = λ d. (d == c) || p.halted d }
+moved (Reload c) p = record p { halted = λ d. not (d == c) && p.halted d }
 moved (Restart still) p = restarted still p
 
 -- ---- moves, one after the other

@@ -55,6 +55,35 @@ module _ (id_of : ℕ → List ℕ) where
 
   -- ---- a decision is taken
 
+  pub agrees_taken : ((c d : ℕ) → id_of c ≡ id_of d → c ≡ d)
+      → (s t : Scene) (c : ℕ) (X : Side) (d : LogDecision) (x : Htlc)
+      → s.links.sides c ≡ Some X → x.key ≡ key_at id_of c d.id → x.mark ≡ d.mark
+      → ((e : LogDecision) → IsIn e X.decisions → e.id ≡ d.id → ⊥)
+      → ((b : ℕ) (Y : Side) → t.links.sides b ≡ Some Y → (e : LogDecision) → IsIn e Y.decisions
+      → ((b ≡ c) × (d ≡ e)) ⊎ ((Z : Side) × (s.links.sides b ≡ Some Z) × IsIn e Z.decisions))
+      → ((y : Htlc) → IsIn y t.book
+      → (IsIn y s.book × (y.key ≡ key_at id_of c d.id → y.decided ≡ true → ⊥)) ⊎ (decide x ≡ y))
+      → HoldAlike id_of s → HoldAlike id_of t
+  agrees_taken one s t c X d x at key marked fresh decisions books a b Y is e in_it y in_book y_key dec n held =
+      cases (decisions b Y is e in_it) (books y in_book)
+    where
+      cases : ((b ≡ c) × (d ≡ e)) ⊎ ((Z : Side) × (s.links.sides b ≡ Some Z) × IsIn e Z.decisions)
+          → (IsIn y s.book × (y.key ≡ key_at id_of c d.id → y.decided ≡ true → ⊥)) ⊎ (decide x ≡ y)
+          → is_held_by n e.mark ≡ true
+      cases (inl new) (inl old) = absurd (old.1 (y_key ∙ ap (λ k. key_at id_of k e.id) new.0
+          ∙ ap (λ (z : LogDecision). key_at id_of c z.id) (sym new.1)) dec)
+      cases (inl new) (inr now) = ap (λ (z : LogDecision). is_held_by n z.mark) (sym new.1)
+          ∙ ap (is_held_by n) (sym marked)
+          ∙ ap (λ (z : Htlc). is_held_by n z.mark) now ∙ held
+      cases (inr z) (inl old) = a b z.0 z.1 e z.2 y old.0 y_key dec n held
+      cases (inr z) (inr now) =
+          let keys : key_at id_of c d.id ≡ key_at id_of b e.id = sym key ∙ ap (λ (w : Htlc). w.key) now ∙ y_key in
+          let chan : c ≡ b = one c b (ap (λ (w : Key). w.channel) keys) in
+          let some : Some z.0 ≡ Some X = sym z.1 ∙ ap s.links.sides (sym chan) ∙ at in
+          let side : z.0 ≡ X = cc in
+          absurd (fresh e (subst (λ (w : Side). IsIn e w.decisions) side z.2) (sym (ap (λ (w : Key). w.id) keys)))
+
+  -- where it joins the book
   pub agrees_decided : ((c d : ℕ) → id_of c ≡ id_of d → c ≡ d)
       → (s t : Scene) (c : ℕ) (X : Side) (d : LogDecision) (x : Htlc)
       → s.links.sides c ≡ Some X → x.key ≡ key_at id_of c d.id → x.mark ≡ d.mark
@@ -63,30 +92,24 @@ module _ (id_of : ℕ → List ℕ) where
       → ((b ≡ c) × (d ≡ e)) ⊎ ((Z : Side) × (s.links.sides b ≡ Some Z) × IsIn e Z.decisions))
       → t.book ≡ left_out (is_htlc (key_at id_of c d.id)) s.book ++ decide x ∷ [] → HoldAlike id_of s
       → HoldAlike id_of t
-  agrees_decided one s t c X d x at key marked fresh decisions book a b Y is e in_it y in_book y_key dec n held =
-      cases (decisions b Y is e in_it) (among_last y (decide x) (left_out (is_htlc (key_at id_of c d.id)) s.book)
-      (subst (IsIn y) book in_book))
+  agrees_decided one s t c X d x at key marked fresh decisions book =
+      agrees_taken one s t c X d x at key marked fresh decisions books
     where
-      old_key : IsIn y (left_out (is_htlc (key_at id_of c d.id)) s.book) → y.key ≡ key_at id_of c d.id → ⊥
-      old_key m k = absurd (let no : false ≡ true =
-          sym (ap not (ap (same_key (key_at id_of c d.id)) k ∙ is_key (key_at id_of c d.id)))
-          ∙ passes (λ z. not (is_htlc (key_at id_of c d.id) z)) y s.book m in cc)
+      others : Htlc → Bool
+      others z = not (is_htlc (key_at id_of c d.id) z)
 
-      cases : ((b ≡ c) × (d ≡ e)) ⊎ ((Z : Side) × (s.links.sides b ≡ Some Z) × IsIn e Z.decisions)
-          → IsIn y (left_out (is_htlc (key_at id_of c d.id)) s.book) ⊎ (decide x ≡ y) → is_held_by n e.mark ≡ true
-      cases (inl new) (inl old) = absurd (old_key old (y_key ∙ ap (λ k. key_at id_of k e.id) new.0
-          ∙ ap (λ (z : LogDecision). key_at id_of c z.id) (sym new.1)))
-      cases (inl new) (inr now) = ap (λ (z : LogDecision). is_held_by n z.mark) (sym new.1)
-          ∙ ap (is_held_by n) (sym marked)
-          ∙ ap (λ (z : Htlc). is_held_by n z.mark) now ∙ held
-      cases (inr z) (inl old) = a b z.0 z.1 e z.2 y
-          (of_picked (λ w. not (is_htlc (key_at id_of c d.id) w)) y s.book old) y_key dec n held
-      cases (inr z) (inr now) =
-          let keys : key_at id_of c d.id ≡ key_at id_of b e.id = sym key ∙ ap (λ (w : Htlc). w.key) now ∙ y_key in
-          let chan : c ≡ b = one c b (ap (λ (w : Key). w.channel) keys) in
-          let some : Some z.0 ≡ Some X = sym z.1 ∙ ap s.links.sides (sym chan) ∙ at in
-          let side : z.0 ≡ X = cc in
-          absurd (fresh e (subst (λ (w : Side). IsIn e w.decisions) side z.2) (sym (ap (λ (w : Key). w.id) keys)))
+      books : (y : Htlc) → IsIn y t.book
+          → (IsIn y s.book × (y.key ≡ key_at id_of c d.id → y.decided ≡ true → ⊥)) ⊎ (decide x ≡ y)
+      books y m = elim (among_last y (decide x) (left_out (is_htlc (key_at id_of c d.id)) s.book)
+          (subst (IsIn y) book m)) [
+            | inr now ↦ inr now
+            | inl old ↦ inl (
+              of_picked others y s.book old,
+              λ at dec. absurd (let no : false ≡ true =
+                  sym (ap not (ap (same_key (key_at id_of c d.id)) at ∙ is_key (key_at id_of c d.id)))
+                  ∙ passes others y s.book old in cc),
+            )
+          ]
 
   -- ---- a restart
 

@@ -54,7 +54,7 @@ module _ (id_of : ℕ → List ℕ) (l m : Links) (a : AreAlike l m) where
 
 pub payments_alike : (id_of : ℕ → List ℕ) (s t : Scene) → AreAlike s.links t.links → t.book ≡ s.book
     → HavePayments id_of s → HavePayments id_of t
-payments_alike id_of s t a book k h = links_go id_of h s t book a.halted (k h) (record {
+payments_alike id_of s t a book k h = links_go id_of h s t book (k h) (record {
   moves = [];
   made = tt;
   of_links = links_alike id_of s.links t.links a h (k h).0 (k h).1.of_links;

@@ -417,10 +417,10 @@ module _ (id_of : ℕ → List ℕ) (one : (c d : ℕ) → id_of c ≡ id_of d �
             both false = refl
 
         none_note : decided_of q es ≡ [] → p.decision ≡ Undecided
-            → AreEntries id_of found false (note_read p.decision (outgoing_of still p.outs) p.removal)
+            → AreEntries id_of found (note_read p.decision (outgoing_of still p.outs) p.removal)
         none_note none d =
             let early : p.outs ≡ [] = (subst (λ z. IsEarly z p.removal p.outs p.note) d kept.early).1 in
-            subst (λ z. AreEntries id_of z false (note_read p.decision (outgoing_of still p.outs) p.removal))
+            subst (λ z. AreEntries id_of z (note_read p.decision (outgoing_of still p.outs) p.removal))
             (sym (nothing none (first_leg es (result_none early))))
             (ap (λ z. note_read z (outgoing_of still p.outs) p.removal) d)
 
@@ -435,7 +435,7 @@ module _ (id_of : ℕ → List ℕ) (one : (c d : ℕ) → id_of c ≡ id_of d �
             absurd (subst (λ z. IsOutgoingOf id_of z (Resolved c i m)) r.outgoing is)
 
         left_one : (g : Leg) → ResultOf id_of h t es b g → (w : OutgoingLeg) → IsOutgoingOf id_of g.outgoing w
-            → IsEntry id_of (htlc_left g) false (note_of_result w)
+            → IsEntry id_of (htlc_left g) (note_of_result w)
         left_one g r Absent is = absurd (subst (λ z. IsOutgoingOf id_of z Absent) r.outgoing is)
         left_one g r Refused is = absurd (subst (λ z. IsOutgoingOf id_of z Refused) r.outgoing is)
         left_one g r (Offered c i) is = absurd (subst (λ z. IsOutgoingOf id_of z (Offered c i)) r.outgoing is)
@@ -462,15 +462,15 @@ module _ (id_of : ℕ → List ℕ) (one : (c d : ℕ) → id_of c ≡ id_of d �
                 (r.0 ++ legs_of q ys, ap (λ w. w ++ legs_of q ys) r.1 ∙ ap (λ w. w ∷ r.0 ++ legs_of q ys) same_leg)
 
         past_note : decided_of q es ≡ [] → p.decision ≡ Past
-            → AreEntries id_of found false (note_read p.decision (outgoing_of still p.outs) p.removal)
+            → AreEntries id_of found (note_read p.decision (outgoing_of still p.outs) p.removal)
         past_note none d =
-            subst (λ z. AreEntries id_of found false (note_read z (outgoing_of still p.outs) p.removal)) (sym d)
+            subst (λ z. AreEntries id_of found (note_read z (outgoing_of still p.outs) p.removal)) (sym d)
             (cases (result_for q all) refl)
           where
-            cases : (o : Option Leg) → result_for q all ≡ o → AreEntries id_of found false
+            cases : (o : Option Leg) → result_for q all ≡ o → AreEntries id_of found
                 (note_of_result (outgoing_of still p.outs))
             cases None e =
-                subst (λ z. AreEntries id_of z false (note_of_result (outgoing_of still p.outs)))
+                subst (λ z. AreEntries id_of z (note_of_result (outgoing_of still p.outs)))
                 (sym (nothing none (first_leg es e)))
                 (not_over (offer_for q all) refl (outgoing_of still p.outs)
                 (subst (λ z. IsOutgoingOf id_of (outgoing_along (or_leg z (offer_for q all)))
@@ -482,7 +482,7 @@ module _ (id_of : ℕ → List ℕ) (one : (c d : ℕ) → id_of c ≡ id_of d �
                 found_so ∙ ap (λ z. unfinished all z ++ cond (is_read q all) [] (map htlc_left (legs_of q es))) none
                 ∙ ap (λ z. cond z [] (map htlc_left (legs_of q es))) (none_read q es none)
                 ∙ ap (map htlc_left) (r.1 ∙ ap (λ z. g ∷ z) tail) in
-                subst (λ z. AreEntries id_of z false (note_of_result (outgoing_of still p.outs))) (sym whole)
+                subst (λ z. AreEntries id_of z (note_of_result (outgoing_of still p.outs))) (sym whole)
                 (left_one g (result_is id_of h t es b g e) (outgoing_of still p.outs)
                 (subst (λ z. IsOutgoingOf id_of (outgoing_along (or_leg z (offer_for q all)))
                 (outgoing_of still p.outs)) e ways_so))
@@ -499,7 +499,7 @@ module _ (id_of : ℕ → List ℕ) (one : (c d : ℕ) → id_of c ≡ id_of d �
 
         decided_note : (e : End) → IsIn (h.channel, e) es → (d : LogDecision)
             → find (λ z. z.id == h.id) e.ledger.decisions ≡ Some d
-            → AreEntries id_of found false (note_read p.decision (outgoing_of still p.outs) p.removal)
+            → AreEntries id_of found (note_read p.decision (outgoing_of still p.outs) p.removal)
         decided_note e m d f =
             let incoming = outgoings.incoming_leg_of id_of h t es b (h.channel, e) m in
             let l = e.dance.log in
@@ -538,20 +538,20 @@ module _ (id_of : ℕ → List ℕ) (one : (c d : ℕ) → id_of c ≡ id_of d �
             s.removal ∙ ap (removal_at h.id) incoming.side ∙ ap (λ i. removal_of i l) (sym id) in
             let backs : incoming_as x.incoming ≡ incoming_leg_of p.removal =
             back_is l d.id live incoming.fit.peer_ids incoming.fit.sound.own_first ∙ ap incoming_leg_of (sym removal) in
-            subst (λ z. AreEntries id_of z false (note_read p.decision
+            subst (λ z. AreEntries id_of z (note_read p.decision
             (outgoing_of still p.outs) p.removal)) (sym whole)
-            (subst (λ z. AreEntries id_of (unfinished all (x ∷ [])) false
+            (subst (λ z. AreEntries id_of (unfinished all (x ∷ []))
             (note_read z (outgoing_of still p.outs) p.removal)) (sym decision)
             (subst (λ v. AreEntries id_of (cond (is_settled (incoming_in d.id l) &&
             (has_no_outgoing (outgoing_read d.mark (incoming_in d.id l) v) && not (is_held d.mark))) []
-            (record x { outgoing = outgoing_read d.mark (incoming_in d.id l) v } ∷ [])) false
+            (record x { outgoing = outgoing_read d.mark (incoming_in d.id l) v } ∷ []))
             (note_by n.0 (outgoing_of still p.outs) (incoming_leg_of p.removal)))
             (ap (λ z. outgoing_for z all) (sym key))
             (read_one id_of x n.0 (outgoing_for q all) (outgoing_of still p.outs)
             (incoming_leg_of p.removal) n.1 ways_so backs
             (never_gone (holds_removal d.id l) (has_own_removal d.id l)) refl)))
 
-        pub read_so : AreEntries id_of found false (note_read p.decision (outgoing_of still p.outs) p.removal)
+        pub read_so : AreEntries id_of found (note_read p.decision (outgoing_of still p.outs) p.removal)
         read_so = cases (t.sides h.channel) refl
           where
             absent : (ys : List (ℕ × End)) → All (IsIncoming id_of t) ys → t.sides h.channel ≡ None
@@ -566,7 +566,7 @@ module _ (id_of : ℕ → List ℕ) (one : (c d : ℕ) → id_of c ≡ id_of d �
 
             of_side : (e : End) → IsIn (h.channel, e) es → (o : Option LogDecision)
                 → find (λ z. z.id == h.id) e.ledger.decisions ≡ o
-                → AreEntries id_of found false (note_read p.decision (outgoing_of still p.outs) p.removal)
+                → AreEntries id_of found (note_read p.decision (outgoing_of still p.outs) p.removal)
             of_side e m (Some d) f = decided_note e m d f
             of_side e m None f =
                 let incoming = outgoings.incoming_leg_of id_of h t es b (h.channel, e) m in
@@ -584,12 +584,12 @@ module _ (id_of : ℕ → List ℕ) (one : (c d : ℕ) → id_of c ≡ id_of d �
                 either none (is_gone h.id (take l.first.own l.own)) decision
               where
                 either : decided_of q es ≡ [] → (g : Bool) → p.decision ≡ decision_by None g
-                    → AreEntries id_of found false (note_read p.decision (outgoing_of still p.outs) p.removal)
+                    → AreEntries id_of found (note_read p.decision (outgoing_of still p.outs) p.removal)
                 either none true d = past_note none d
                 either none false d = none_note none d
 
             cases : (o : Option Side) → t.sides h.channel ≡ o
-                → AreEntries id_of found false (note_read p.decision (outgoing_of still p.outs) p.removal)
+                → AreEntries id_of found (note_read p.decision (outgoing_of still p.outs) p.removal)
             cases None e = none_note (none_there es b.each (absent es b.each e)) (s.decision ∙ ap (decision_at h.id) e)
             cases (Some z) e = let r = b.every h.channel z e in of_side r.0 r.1
                 (find (λ z. z.id == h.id) r.0.ledger.decisions) refl

@@ -132,12 +132,19 @@ module _ (id_of : ℕ → List ℕ) (h : Incoming) (d i : ℕ) where
       covered_goes c e turn.end s t fit g (noted_shift (command.Decide d.event d.mark) e turn done)
   covered_then s t fit (may.RefusesDecision c e d o number is on g book) = covered_same s t g
   covered_then s t fit (may.HaltsDeciding c e d o is on g halted book) = covered_lost _ s t g
+  covered_then s t fit (may.EntersDecision c e d o is on g book) = covered_same s t g
+  covered_then s t fit (may.TakesDecision c e d o turn queue on waits done g book) =
+      covered_goes c e turn.end s t fit g (noted_shift (command.Decide d.event d.mark) e turn done)
+  covered_then s t fit (may.TakesUnheard c e d o turn on waits done g book) =
+      covered_goes c e turn.end s t fit g (noted_shift (command.Decide d.event d.mark) e turn done)
+  covered_then s t fit (may.HearsDecision c e d o queue is on g book) = covered_same s t g
   covered_then s t fit (may.DecidesNothing c e event turn done g book) =
       covered_goes c e turn.end s t fit g (noted_shift (command.Decide event mark.None) e turn done)
   covered_then s t fit (may.Resumes c e event m turn done g book) =
       covered_goes c e turn.end s t fit g (noted_shift (command.Resume event m) e turn done)
   covered_then s t fit (may.Halts c g halted book) = covered_lost _ s t g
   covered_then s t fit (may.Disconnects c e told is awake tells g halted book) = covered_lost _ s t g
+  covered_then s t fit (may.Reloads c e told is halted tells g now book) = covered_lost _ s t g
   covered_then s t fit (may.Restarts es g none ends book) = covered_lost _ s t g
 
   pub covered_stays : (s : Snapshot) (ts : List Snapshot) → AreFit id_of s → AreMoments id_of s ts → At s

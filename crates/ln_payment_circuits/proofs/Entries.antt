@@ -17,7 +17,7 @@ use Rattle.ln_book_tables.specs.declared.htlc.Htlc.{Htlc}
 use Rattle.ln_book_tables.specs.declared.entry.KeptState.{KeptState}
 use Rattle.ln_book_tables.specs.Replay.{same, same_key, goes_by, is_htlc, is_offered, is_decided, changed_first}
 use Rattle.ln_book_tables.specs.Replay.{left_out}
-use Rattle.ln_book_tables.specs.Replay.{joined, decide, put_outgoing, put_incoming, with_outgoing, with_incoming}
+use Rattle.ln_book_tables.specs.Replay.{joined, put_outgoing, put_incoming, with_outgoing, with_incoming}
 use Rattle.ln_book_tables.specs.Replay.{is_settled, has_no_outgoing}
 use Rattle.ln_book_tables.specs.Replay.{is_finished, is_outgoing_lost, is_among, incoming_kept, htlc_kept}
 use Rattle.ln_log.specs.Mark.{is_held}
@@ -89,32 +89,32 @@ module _ (id_of : ℕ → List ℕ) where
     pub outgoing : IsOutgoingOf x.outgoing n.outgoing
     pub incoming : incoming_as x.incoming ≡ n.incoming
 
-  -- one that isn't decided is of an end that has halted
-  abbrev pub IsEntry : Htlc → Bool → Option Note → Type 0
-  IsEntry x halted None = (x.decided ≡ false) × (halted ≡ true)
-  IsEntry x halted (Some n) = (x.decided ≡ true) × IsNoteOf x n
+  -- a channel that hasn't taken the decision may yet take it, so nothing is done about it
+  abbrev pub IsEntry : Htlc → Option Note → Type 0
+  IsEntry x None = x.decided ≡ false
+  IsEntry x (Some n) = (x.decided ≡ true) × IsNoteOf x n
 
   -- of those with this key there is one at most
-  abbrev pub AreEntries : List Htlc → Bool → Option Note → Type 0
-  AreEntries [] halted o = o ≡ None
-  AreEntries (x ∷ []) halted o = IsEntry x halted o
-  AreEntries (x ∷ y ∷ xs) halted o = ⊥
+  abbrev pub AreEntries : List Htlc → Option Note → Type 0
+  AreEntries [] o = o ≡ None
+  AreEntries (x ∷ []) o = IsEntry x o
+  AreEntries (x ∷ y ∷ xs) o = ⊥
 
-  abbrev pub HasEntry : Incoming → List Htlc → Bool → Option Note → Type 0
-  HasEntry h xs halted o = AreEntries (filter (is_htlc (key_of id_of h)) xs) halted o
+  abbrev pub HasEntry : Incoming → List Htlc → Option Note → Type 0
+  HasEntry h xs o = AreEntries (filter (is_htlc (key_of id_of h)) xs) o
 
   -- ---- the HTLC goes there, or its removal is so
 
-  outgoing_one : (x : Htlc) (b : Bool) (o : Option Note) (w : BookOutgoing) (v : OutgoingLeg) → IsOutgoingOf w v
-      → IsEntry x b o
-      → IsEntry (put_outgoing w x) b (move.with_outgoing v o)
-  outgoing_one x b None w v is h = h
-  outgoing_one x b (Some n) w v is h = (h.0, record { mark = h.1.mark; outgoing = is; incoming = h.1.incoming })
+  outgoing_one : (x : Htlc) (o : Option Note) (w : BookOutgoing) (v : OutgoingLeg) → IsOutgoingOf w v
+      → IsEntry x o
+      → IsEntry (put_outgoing w x) (move.with_outgoing v o)
+  outgoing_one x None w v is h = h
+  outgoing_one x (Some n) w v is h = (h.0, record { mark = h.1.mark; outgoing = is; incoming = h.1.incoming })
 
-  back_one : (x : Htlc) (b : Bool) (o : Option Note) (w : BookIncoming) → IsEntry x b o
-      → IsEntry (put_incoming w x) b (move.with_incoming (incoming_as w) o)
-  back_one x b None w h = h
-  back_one x b (Some n) w h = (h.0, record { mark = h.1.mark; outgoing = h.1.outgoing; incoming = refl })
+  back_one : (x : Htlc) (o : Option Note) (w : BookIncoming) → IsEntry x o
+      → IsEntry (put_incoming w x) (move.with_incoming (incoming_as w) o)
+  back_one x None w h = h
+  back_one x (Some n) w h = (h.0, record { mark = h.1.mark; outgoing = h.1.outgoing; incoming = refl })
 
   none_outgoing : (o : Option Note) (v : OutgoingLeg) → o ≡ None → move.with_outgoing v o ≡ None
   none_outgoing None v e = refl
@@ -124,54 +124,54 @@ module _ (id_of : ℕ → List ℕ) where
   none_back None v e = refl
   none_back (Some n) v e = absurd (cc)
 
-  first_by : (k : Key) (f : Htlc → Htlc) (xs : List Htlc) (b : Bool) (o p : Option Note)
-      → (o ≡ None → p ≡ None) → ((x : Htlc) → IsEntry x b o → IsEntry (f x) b p)
-      → (ys : List Htlc) → filter (is_htlc k) xs ≡ ys → AreEntries ys b o
-      → AreEntries (changed_first (is_htlc k) f ys) b p
-  first_by k f xs b o p none one [] e h = none h
-  first_by k f xs b o p none one (x ∷ []) e h =
-      subst (λ ys. AreEntries ys b p) (sym (ap (λ t. cond t (f x ∷ []) (x ∷ []))
+  first_by : (k : Key) (f : Htlc → Htlc) (xs : List Htlc) (o p : Option Note)
+      → (o ≡ None → p ≡ None) → ((x : Htlc) → IsEntry x o → IsEntry (f x) p)
+      → (ys : List Htlc) → filter (is_htlc k) xs ≡ ys → AreEntries ys o
+      → AreEntries (changed_first (is_htlc k) f ys) p
+  first_by k f xs o p none one [] e h = none h
+  first_by k f xs o p none one (x ∷ []) e h =
+      subst (λ ys. AreEntries ys p) (sym (ap (λ t. cond t (f x ∷ []) (x ∷ []))
       (first_passes (is_htlc k) xs x [] e))) (one x h)
-  first_by k f xs b o p none one (x ∷ y ∷ ys) e h = absurd h
+  first_by k f xs o p none one (x ∷ y ∷ ys) e h = absurd h
 
   -- of this HTLC
-  pub outgoing_here : (h : Incoming) (xs : List Htlc) (b : Bool) (o : Option Note) (w : BookOutgoing)
+  pub outgoing_here : (h : Incoming) (xs : List Htlc) (o : Option Note) (w : BookOutgoing)
       (v : OutgoingLeg) → IsOutgoingOf w v
-      → HasEntry h xs b o → HasEntry h (with_outgoing (key_of id_of h) w xs) b (move.with_outgoing v o)
-  outgoing_here h xs b o w v is k =
+      → HasEntry h xs o → HasEntry h (with_outgoing (key_of id_of h) w xs) (move.with_outgoing v o)
+  outgoing_here h xs o w v is k =
       let q = is_htlc (key_of id_of h) in
-      subst (λ ys. AreEntries ys b (move.with_outgoing v o)) (sym (changed_turn (put_outgoing w) q (λ x. refl) xs))
-      (first_by (key_of id_of h) (put_outgoing w) xs b o (move.with_outgoing v o) (none_outgoing o v)
-      (λ x e. outgoing_one x b o w v is e)
+      subst (λ ys. AreEntries ys (move.with_outgoing v o)) (sym (changed_turn (put_outgoing w) q (λ x. refl) xs))
+      (first_by (key_of id_of h) (put_outgoing w) xs o (move.with_outgoing v o) (none_outgoing o v)
+      (λ x e. outgoing_one x o w v is e)
       (filter q xs) refl k)
 
-  pub back_here : (h : Incoming) (xs : List Htlc) (b : Bool) (o : Option Note) (w : BookIncoming)
-      → HasEntry h xs b o → HasEntry h (with_incoming (key_of id_of h) w xs) b (move.with_incoming (incoming_as w) o)
-  back_here h xs b o w k =
+  pub back_here : (h : Incoming) (xs : List Htlc) (o : Option Note) (w : BookIncoming)
+      → HasEntry h xs o → HasEntry h (with_incoming (key_of id_of h) w xs) (move.with_incoming (incoming_as w) o)
+  back_here h xs o w k =
       let q = is_htlc (key_of id_of h) in
-      subst (λ ys. AreEntries ys b (move.with_incoming (incoming_as w) o)) (sym (changed_turn (put_incoming w) q
+      subst (λ ys. AreEntries ys (move.with_incoming (incoming_as w) o)) (sym (changed_turn (put_incoming w) q
       (λ x. refl) xs))
-      (first_by (key_of id_of h) (put_incoming w) xs b o (move.with_incoming (incoming_as w) o) (none_back o
+      (first_by (key_of id_of h) (put_incoming w) xs o (move.with_incoming (incoming_as w) o) (none_back o
       (incoming_as w))
-      (λ x e. back_one x b o w e) (filter q xs) refl k)
+      (λ x e. back_one x o w e) (filter q xs) refl k)
 
   -- of another one
   apart : (k j : Key) → same_key k j ≡ false → (x : Htlc) → is_htlc j x ≡ true → is_htlc k x ≡ false
   apart k j e x is = ap (same_key k) (sym (key_is j x.key is)) ∙ e
 
   pub outgoing_there : (h : Incoming) (k : Key) → same_key k (key_of id_of h) ≡ false
-      → (xs : List Htlc) (b : Bool) (o : Option Note)
-      (w : BookOutgoing) → HasEntry h xs b o → HasEntry h (with_outgoing k w xs) b o
-  outgoing_there h k e xs b o w =
-      subst (λ ys. AreEntries ys b o) (sym (others_stay (is_htlc k) (put_outgoing w) (is_htlc
+      → (xs : List Htlc) (o : Option Note)
+      (w : BookOutgoing) → HasEntry h xs o → HasEntry h (with_outgoing k w xs) o
+  outgoing_there h k e xs o w =
+      subst (λ ys. AreEntries ys o) (sym (others_stay (is_htlc k) (put_outgoing w) (is_htlc
       (key_of id_of h)) (λ x. refl)
       (apart k (key_of id_of h) e) xs))
 
   pub back_there : (h : Incoming) (k : Key) → same_key k (key_of id_of h) ≡ false
-      → (xs : List Htlc) (b : Bool) (o : Option Note)
-      (w : BookIncoming) → HasEntry h xs b o → HasEntry h (with_incoming k w xs) b o
-  back_there h k e xs b o w =
-      subst (λ ys. AreEntries ys b o) (sym (others_stay (is_htlc k) (put_incoming w) (is_htlc
+      → (xs : List Htlc) (o : Option Note)
+      (w : BookIncoming) → HasEntry h xs o → HasEntry h (with_incoming k w xs) o
+  back_there h k e xs o w =
+      subst (λ ys. AreEntries ys o) (sym (others_stay (is_htlc k) (put_incoming w) (is_htlc
       (key_of id_of h)) (λ x. refl)
       (apart k (key_of id_of h) e) xs))
 
@@ -186,11 +186,11 @@ module _ (id_of : ℕ → List ℕ) where
       cases true e h = ap (λ t. cond (not t) (x ∷ left_out q (filter q xs)) (left_out q (filter q xs))) e ∙ h
       cases false e h = h
 
-  pub left_here : (h : Incoming) (xs : List Htlc) (b : Bool) → HasEntry h
-      (left_out (is_htlc (key_of id_of h)) xs) b None
-  left_here h xs b =
+  pub left_here : (h : Incoming) (xs : List Htlc) → HasEntry h
+      (left_out (is_htlc (key_of id_of h)) xs) None
+  left_here h xs =
       let q = is_htlc (key_of id_of h) in
-      subst (λ ys. AreEntries ys b None) (sym (left_turn q q xs ∙ left_none q xs)) refl
+      subst (λ ys. AreEntries ys None) (sym (left_turn q q xs ∙ left_none q xs)) refl
 
   left_others : (p q : Htlc → Bool) → ((x : Htlc) → q x ≡ true → p x ≡ false) → (xs : List Htlc)
       → left_out p (filter q xs) ≡ filter q xs
@@ -204,11 +204,11 @@ module _ (id_of : ℕ → List ℕ) where
       cases false e h = h
 
   pub left_there : (h : Incoming) (k : Key) → same_key k (key_of id_of h) ≡ false
-      → (xs : List Htlc) (b : Bool) (o : Option Note)
-      → HasEntry h xs b o → HasEntry h (left_out (is_htlc k) xs) b o
-  left_there h k e xs b o =
+      → (xs : List Htlc) (o : Option Note)
+      → HasEntry h xs o → HasEntry h (left_out (is_htlc k) xs) o
+  left_there h k e xs o =
       let q = is_htlc (key_of id_of h) in
-      subst (λ ys. AreEntries ys b o) (sym (left_turn (is_htlc k) q xs
+      subst (λ ys. AreEntries ys o) (sym (left_turn (is_htlc k) q xs
       ∙ left_others (is_htlc k) q (apart k (key_of id_of h) e) xs))
 
   -- ---- its removal is held; one that waits stays
@@ -237,39 +237,39 @@ module _ (id_of : ℕ → List ℕ) where
   over_so (outgoing.Offered k) c i m is = refl
   over_so (outgoing.Resolved k how) c i m is = refl
 
-  pub settled_some : (x : Htlc) (m : Mark) (w : OutgoingLeg) (b : Bool) → x.decided ≡ true → mark_as x.mark ≡ Some m
+  pub settled_some : (x : Htlc) (m : Mark) (w : OutgoingLeg) → x.decided ≡ true → mark_as x.mark ≡ Some m
       → IsOutgoingOf x.outgoing w
       → AreEntries (cond (not (has_no_outgoing x.outgoing && not (is_held x.mark)))
-      (put_incoming incoming.Settled x ∷ []) []) b
+      (put_incoming incoming.Settled x ∷ []) [])
       (settled_note m w)
-  settled_some x m w b d e is =
+  settled_some x m w d e is =
       subst (λ c. AreEntries (cond (not (has_no_outgoing x.outgoing && not c))
-      (put_incoming incoming.Settled x ∷ []) []) b
+      (put_incoming incoming.Settled x ∷ []) [])
       (settled_note m w))
       (sym (held_as x.mark m e)) (cases m w e is)
     where
       none : (v : Bool) → has_no_outgoing x.outgoing ≡ v → v ≡ true
           → AreEntries (cond (not (has_no_outgoing x.outgoing && true))
-          (put_incoming incoming.Settled x ∷ []) []) b None
-      none true f g = subst (λ t. AreEntries (cond (not (t && true)) (put_incoming incoming.Settled x ∷ []) []) b None)
+          (put_incoming incoming.Settled x ∷ []) []) None
+      none true f g = subst (λ t. AreEntries (cond (not (t && true)) (put_incoming incoming.Settled x ∷ []) []) None)
           (sym f) refl
       none false f g = absurd (cc)
 
       some : (m : Mark) (w : OutgoingLeg) → has_no_outgoing x.outgoing ≡ false → mark_as x.mark ≡ Some m
           → IsOutgoingOf x.outgoing w
-          → AreEntries (cond (not (has_no_outgoing x.outgoing && true)) (put_incoming incoming.Settled x ∷ []) []) b
+          → AreEntries (cond (not (has_no_outgoing x.outgoing && true)) (put_incoming incoming.Settled x ∷ []) [])
           (Some (record { mark = m; outgoing = w; incoming = Settled }))
-      some m w f e is = subst (λ t. AreEntries (cond (not (t && true)) (put_incoming incoming.Settled x ∷ []) []) b
+      some m w f e is = subst (λ t. AreEntries (cond (not (t && true)) (put_incoming incoming.Settled x ∷ []) [])
           (Some (record { mark = m; outgoing = w; incoming = Settled }))) (sym f)
           (d, record { mark = e; outgoing = is; incoming = refl })
 
       cases : (m : Mark) (w : OutgoingLeg) → mark_as x.mark ≡ Some m → IsOutgoingOf x.outgoing w
           → AreEntries (cond (not (has_no_outgoing x.outgoing && not (is_hold m)))
-          (put_incoming incoming.Settled x ∷ []) []) b
+          (put_incoming incoming.Settled x ∷ []) [])
           (settled_note m w)
       cases Hold w e is = waits (has_no_outgoing x.outgoing)
         where
-          waits : (t : Bool) → AreEntries (cond (not (t && false)) (put_incoming incoming.Settled x ∷ []) []) b
+          waits : (t : Bool) → AreEntries (cond (not (t && false)) (put_incoming incoming.Settled x ∷ []) [])
               (Some (record { mark = Hold; outgoing = w; incoming = Settled }))
           waits true = (d, record { mark = e; outgoing = is; incoming = refl })
           waits false = (d, record { mark = e; outgoing = is; incoming = refl })
@@ -282,23 +282,22 @@ module _ (id_of : ℕ → List ℕ) where
       cases (Answer j) (Offered c i) e is = some (Answer j) (Offered c i) (offered_so x.outgoing c i is) e is
       cases (Answer j) (Resolved c i k) e is = some (Answer j) (Resolved c i k) (over_so x.outgoing c i k is) e is
 
-  settled_by : (k : Key) (x : Htlc) (b : Bool) (o : Option Note) → is_htlc k x ≡ true → IsEntry x b o
-      → AreEntries (left_out (is_finished k) (put_incoming incoming.Settled x ∷ [])) b (move.settled o)
-  settled_by k x b o is h =
-      subst (λ t. AreEntries (cond (not t) (put_incoming incoming.Settled x ∷ []) []) b (move.settled o))
+  settled_by : (k : Key) (x : Htlc) (o : Option Note) → is_htlc k x ≡ true → IsEntry x o
+      → AreEntries (left_out (is_finished k) (put_incoming incoming.Settled x ∷ [])) (move.settled o)
+  settled_by k x o is h =
+      subst (λ t. AreEntries (cond (not t) (put_incoming incoming.Settled x ∷ []) []) (move.settled o))
       (sym (ap (λ t. t && (has_no_outgoing x.outgoing && not (is_held x.mark))) is)) (cases o h)
     where
-      none : (t : Bool) → (x.decided ≡ false) × (b ≡ true) → AreEntries
-          (cond (not t) (put_incoming incoming.Settled x ∷ []) []) b None
+      none : (t : Bool) → x.decided ≡ false → AreEntries (cond (not t) (put_incoming incoming.Settled x ∷ []) []) None
       none true h = refl
       none false h = h
 
-      cases : (o : Option Note) → IsEntry x b o
+      cases : (o : Option Note) → IsEntry x o
           → AreEntries (cond (not (has_no_outgoing x.outgoing && not (is_held x.mark)))
-          (put_incoming incoming.Settled x ∷ []) []) b
+          (put_incoming incoming.Settled x ∷ []) [])
           (move.settled o)
       cases None h = none (has_no_outgoing x.outgoing && not (is_held x.mark)) h
-      cases (Some n) h = settled_some x n.mark n.outgoing b h.0 h.1.mark h.1.outgoing
+      cases (Some n) h = settled_some x n.mark n.outgoing h.0 h.1.mark h.1.outgoing
 
   finished_apart : (h : Incoming) (k : Key) → same_key k (key_of id_of h) ≡ false → (x : Htlc)
       → is_htlc (key_of id_of h) x ≡ true
@@ -307,20 +306,20 @@ module _ (id_of : ℕ → List ℕ) where
       (is_held x.mark))))
       (apart k (key_of id_of h) e x is)
 
-  pub settled_here : (h : Incoming) (xs : List Htlc) (b : Bool) (o : Option Note) → HasEntry h xs b o
-      → HasEntry h (left_out (is_finished (key_of id_of h)) (with_incoming (key_of id_of h) incoming.Settled xs)) b
+  pub settled_here : (h : Incoming) (xs : List Htlc) (o : Option Note) → HasEntry h xs o
+      → HasEntry h (left_out (is_finished (key_of id_of h)) (with_incoming (key_of id_of h) incoming.Settled xs))
       (move.settled o)
-  settled_here h xs b o k =
+  settled_here h xs o k =
       let q = is_htlc (key_of id_of h) in
       let f = put_incoming incoming.Settled in
-      subst (λ ys. AreEntries ys b (move.settled o))
+      subst (λ ys. AreEntries ys (move.settled o))
       (sym (left_turn (is_finished (key_of id_of h)) q (with_incoming (key_of id_of h) incoming.Settled xs)
       ∙ ap (left_out (is_finished (key_of id_of h))) (changed_turn f q (λ x. refl) xs)))
       (cases (filter q xs) refl k)
     where
-      cases : (ys : List Htlc) → filter (is_htlc (key_of id_of h)) xs ≡ ys → AreEntries ys b o
+      cases : (ys : List Htlc) → filter (is_htlc (key_of id_of h)) xs ≡ ys → AreEntries ys o
           → AreEntries (left_out (is_finished (key_of id_of h))
-          (changed_first (is_htlc (key_of id_of h)) (put_incoming incoming.Settled) ys)) b
+          (changed_first (is_htlc (key_of id_of h)) (put_incoming incoming.Settled) ys))
           (move.settled o)
       cases [] e k = none o k
         where
@@ -329,20 +328,20 @@ module _ (id_of : ℕ → List ℕ) where
           none (Some n) e = absurd (cc)
       cases (x ∷ []) e k =
           let is = first_passes (is_htlc (key_of id_of h)) xs x [] e in
-          subst (λ ys. AreEntries (left_out (is_finished (key_of id_of h)) ys) b (move.settled o))
+          subst (λ ys. AreEntries (left_out (is_finished (key_of id_of h)) ys) (move.settled o))
           (sym (ap (λ t. cond t (put_incoming incoming.Settled x ∷ []) (x ∷ [])) is)) (settled_by
-          (key_of id_of h) x b o is k)
+          (key_of id_of h) x o is k)
       cases (x ∷ y ∷ ys) e k = absurd k
 
-  pub settled_there : (h : Incoming) (k : Key) → same_key k (key_of id_of h) ≡ false → (xs : List Htlc) (b : Bool)
-      (o : Option Note) → HasEntry h xs b o
-      → HasEntry h (left_out (is_finished k) (with_incoming k incoming.Settled xs)) b o
-  settled_there h k e xs b o a =
+  pub settled_there : (h : Incoming) (k : Key) → same_key k (key_of id_of h) ≡ false → (xs : List Htlc)
+      (o : Option Note) → HasEntry h xs o
+      → HasEntry h (left_out (is_finished k) (with_incoming k incoming.Settled xs)) o
+  settled_there h k e xs o a =
       let q = is_htlc (key_of id_of h) in
-      subst (λ ys. AreEntries ys b o)
+      subst (λ ys. AreEntries ys o)
       (sym (left_turn (is_finished k) q (with_incoming k incoming.Settled xs)
       ∙ left_others (is_finished k) q (finished_apart h k e) (with_incoming k incoming.Settled xs)))
-      (back_there h k e xs b o incoming.Settled a)
+      (back_there h k e xs o incoming.Settled a)
 
   -- ---- what became of its outgoing HTLC is held
 
@@ -366,14 +365,14 @@ module _ (id_of : ℕ → List ℕ) where
         (key_at id_of c i) k e ∙ is.0)
 
     -- it stays as it is, or is over there
-    pub over_so_far : (h : Incoming) (c i : ℕ) (w : How) (xs : List Htlc) (b : Bool) (o : Option Note)
-        → HasEntry h xs b o
+    pub over_so_far : (h : Incoming) (c i : ℕ) (w : How) (xs : List Htlc) (o : Option Note)
+        → HasEntry h xs o
         → HasEntry h (changed_first (is_offered (key_at id_of c i)) (put_outgoing (outgoing.Resolved
-        (key_at id_of c i) w)) xs) b o
+        (key_at id_of c i) w)) xs) o
         ⊎ (move.NoteIsAt c i o × HasEntry h (changed_first (is_offered (key_at id_of c i))
-        (put_outgoing (outgoing.Resolved (key_at id_of c i) w)) xs) b
+        (put_outgoing (outgoing.Resolved (key_at id_of c i) w)) xs)
         (move.with_outgoing (Resolved c i (kind_of w)) o))
-    over_so_far h c i w xs b o k =
+    over_so_far h c i w xs o k =
         cases (filter q xs) k (changes_so p f q (λ x. refl) xs)
       where
         p : Htlc → Bool
@@ -388,30 +387,30 @@ module _ (id_of : ℕ → List ℕ) where
         now : List Htlc
         now = filter q (changed_first p f xs)
 
-        hit : (o : Option Note) (x : Htlc) → p x ≡ true → IsEntry x b o
-            → IsEntry x b o ⊎ (move.NoteIsAt c i o × IsEntry (f x) b (move.with_outgoing (Resolved c i (kind_of w)) o))
+        hit : (o : Option Note) (x : Htlc) → p x ≡ true → IsEntry x o
+            → IsEntry x o ⊎ (move.NoteIsAt c i o × IsEntry (f x) (move.with_outgoing (Resolved c i (kind_of w)) o))
         hit None x e h = inl h
         hit (Some n) x e h = inr (
           is_there c i x.outgoing n.outgoing h.1.outgoing e,
           (h.0, record { mark = h.1.mark; outgoing = (refl, refl); incoming = h.1.incoming }),
         )
 
-        either_way : (x : Htlc) → now ≡ f x ∷ [] → p x ≡ true → (o : Option Note) → IsEntry x b o
-            → AreEntries now b o ⊎ (move.NoteIsAt c i o
-            × AreEntries now b (move.with_outgoing (Resolved c i (kind_of w)) o))
-        either_way x is e None h = inl (subst (λ ys. AreEntries ys b None) (sym is) h)
+        either_way : (x : Htlc) → now ≡ f x ∷ [] → p x ≡ true → (o : Option Note) → IsEntry x o
+            → AreEntries now o ⊎ (move.NoteIsAt c i o
+            × AreEntries now (move.with_outgoing (Resolved c i (kind_of w)) o))
+        either_way x is e None h = inl (subst (λ ys. AreEntries ys None) (sym is) h)
         either_way x is e (Some n) h = inr (
           is_there c i x.outgoing n.outgoing h.1.outgoing e,
-          subst (λ ys. AreEntries ys b (Some (record n { outgoing = Resolved c i (kind_of w) }))) (sym is)
+          subst (λ ys. AreEntries ys (Some (record n { outgoing = Resolved c i (kind_of w) }))) (sym is)
               (h.0, record { mark = h.1.mark; outgoing = (refl, refl); incoming = h.1.incoming }),
         )
 
-        cases : (ys : List Htlc) → AreEntries ys b o → Changes p f ys now
-            → AreEntries now b o ⊎ (move.NoteIsAt c i o
-            × AreEntries now b (move.with_outgoing (Resolved c i (kind_of w)) o))
-        cases [] k e = inl (subst (λ ys. AreEntries ys b o) (sym (none_changes p f now e)) k)
+        cases : (ys : List Htlc) → AreEntries ys o → Changes p f ys now
+            → AreEntries now o ⊎ (move.NoteIsAt c i o
+            × AreEntries now (move.with_outgoing (Resolved c i (kind_of w)) o))
+        cases [] k e = inl (subst (λ ys. AreEntries ys o) (sym (none_changes p f now e)) k)
         cases (x ∷ []) k e = elim (one_changes p f x now e) [
-          | inl same ↦ inl (subst (λ ys. AreEntries ys b o) (sym same) k)
+          | inl same ↦ inl (subst (λ ys. AreEntries ys o) (sym same) k)
           | inr new ↦ either_way x new.1 new.0 o k
         ]
         cases (x ∷ y ∷ ys) k e = absurd k
@@ -425,11 +424,11 @@ module _ (id_of : ℕ → List ℕ) where
     abbrev pub lost_back : Bool → Option Note → Option Note
     lost_back lost o = cond lost (move.with_incoming Open o) o
 
-    pub record Loses (h : Incoming) (c : ℕ) (told : KeptState) (ys : List Htlc) (b : Bool)
+    pub record Loses (h : Incoming) (c : ℕ) (told : KeptState) (ys : List Htlc)
         (o : Option Note) : Type 0 where
       pub outgoing : Bool
       pub incoming : Bool
-      pub there : AreEntries (map (htlc_kept (id_of c) told) ys) b (lost_back incoming (lost_outgoing outgoing o))
+      pub there : AreEntries (map (htlc_kept (id_of c) told) ys) (lost_back incoming (lost_outgoing outgoing o))
       -- the way is lost of what is offered there, with no id below the next one
       pub is_lost : outgoing ≡ true → (i : ℕ) × (move.NoteIsAt c i o × (nat_le told.next i ≡ true))
       pub is_kept : outgoing ≡ false → (n : Note) (i : ℕ) → o ≡ Some n → n.outgoing ≡ Offered c i
@@ -503,21 +502,21 @@ module _ (id_of : ℕ → List ℕ) where
         sym (ap (λ b. b && nat_le next i) (is_same (id_of c) (id_of c) refl))
         ∙ sym (ap (λ (z : Key). same (id_of c) z.channel && nat_le next z.id) key) ∙ e
 
-    lost_one : (x : Htlc) (b : Bool) (n : Note) (lost kept : Bool) → x.decided ≡ true → IsNoteOf x n
+    lost_one : (x : Htlc) (n : Note) (lost kept : Bool) → x.decided ≡ true → IsNoteOf x n
         → IsEntry (record x {
           outgoing = cond lost outgoing.Absent x.outgoing;
           incoming = incoming_kept kept
               x.incoming;
-        }) b
+        })
         (lost_back (is_sent x.incoming && not kept) (lost_outgoing lost (Some n)))
-    lost_one x b n lost kept d note = cases lost (is_sent x.incoming && not kept) refl
+    lost_one x n lost kept d note = cases lost (is_sent x.incoming && not kept) refl
       where
         cases : (l r : Bool) → (is_sent x.incoming && not kept) ≡ r
             → IsEntry (record x {
               outgoing = cond l outgoing.Absent x.outgoing;
               incoming = incoming_kept kept
                   x.incoming;
-            }) b
+            })
             (lost_back r (lost_outgoing l (Some n)))
         cases true true e = (
           d,
@@ -552,10 +551,10 @@ module _ (id_of : ℕ → List ℕ) where
           },
         )
 
-    loses_by : (h : Incoming) (c : ℕ) (told : KeptState) (ys : List Htlc) (b : Bool) (o : Option Note)
-        → ((x : Htlc) → (xs : List Htlc) → ys ≡ x ∷ xs → x.key ≡ key_of id_of h) → AreEntries ys b o
-        → Loses h c told ys b o
-    loses_by h c told [] b o key k = record {
+    loses_by : (h : Incoming) (c : ℕ) (told : KeptState) (ys : List Htlc) (o : Option Note)
+        → ((x : Htlc) → (xs : List Htlc) → ys ≡ x ∷ xs → x.key ≡ key_of id_of h) → AreEntries ys o
+        → Loses h c told ys o
+    loses_by h c told [] o key k = record {
       outgoing = false;
       incoming = false;
       there = k;
@@ -564,7 +563,7 @@ module _ (id_of : ℕ → List ℕ) where
       is_open = λ e. absurd (cc);
       is_there = λ e. absurd (cc);
     }
-    loses_by h c told (x ∷ []) b None key k = record {
+    loses_by h c told (x ∷ []) None key k = record {
       outgoing = false;
       incoming = false;
       there = k;
@@ -573,24 +572,24 @@ module _ (id_of : ℕ → List ℕ) where
       is_open = λ e. absurd (cc);
       is_there = λ e. absurd (cc);
     }
-    loses_by h c told (x ∷ []) b (Some n) key k =
+    loses_by h c told (x ∷ []) (Some n) key k =
         let kept = not (same (id_of c) x.key.channel) || is_among x.key.id told.removes in
         record {
           outgoing = is_outgoing_lost (id_of c) told.next x.outgoing;
           incoming = is_sent x.incoming && not kept;
-          there = lost_one x b n (is_outgoing_lost (id_of c) told.next x.outgoing) kept k.0 k.1;
+          there = lost_one x n (is_outgoing_lost (id_of c) told.next x.outgoing) kept k.0 k.1;
           is_lost = λ e. lost_at c told.next x.outgoing n.outgoing k.1.outgoing e;
           is_kept = λ e m i is at. kept_at c told.next i x.outgoing n.outgoing k.1.outgoing e
               (ap (λ (z : Note). z.outgoing) (let same_note : n ≡ m = cc in same_note) ∙ at);
           is_open = open_so h c told x (key x [] refl);
           is_there = λ e. (x, inl refl, key x [] refl);
         }
-    loses_by h c told (x ∷ y ∷ ys) b o key k = absurd k
+    loses_by h c told (x ∷ y ∷ ys) o key k = absurd k
 
-    pub loses : (h : Incoming) (c : ℕ) (told : KeptState) (xs : List Htlc) (b : Bool) (o : Option Note)
-        → HasEntry h xs b o
-        → Loses h c told (filter (is_htlc (key_of id_of h)) xs) b o
-    loses h c told xs b o k = loses_by h c told (filter (is_htlc (key_of id_of h)) xs) b o
+    pub loses : (h : Incoming) (c : ℕ) (told : KeptState) (xs : List Htlc) (o : Option Note)
+        → HasEntry h xs o
+        → Loses h c told (filter (is_htlc (key_of id_of h)) xs) o
+    loses h c told xs o k = loses_by h c told (filter (is_htlc (key_of id_of h)) xs) o
         (λ x ys e. sym (key_is (key_of id_of h) x.key (first_passes (is_htlc (key_of id_of h)) xs x ys e))) k
 
     -- of the list of all HTLCs
@@ -612,17 +611,17 @@ module _ (id_of : ℕ → List ℕ) where
         cases false d e = e
 
     -- none of this HTLC is decided
-    none_decided : (ys : List Htlc) (b : Bool) → AreEntries ys b None → list_any (λ x. x.decided) ys ≡ false
-    none_decided [] b k = refl
-    none_decided (x ∷ []) b k = ap (λ t. t || false) k.0
-    none_decided (x ∷ y ∷ ys) b k = absurd k
+    none_decided : (ys : List Htlc) → AreEntries ys None → list_any (λ x. x.decided) ys ≡ false
+    none_decided [] k = refl
+    none_decided (x ∷ []) k = ap (λ t. t || false) k
+    none_decided (x ∷ y ∷ ys) k = absurd k
 
-    pub joins_so : (h : Incoming) (x : Htlc) (xs : List Htlc) (b : Bool) → x.key ≡ key_of id_of h → HasEntry h xs b None
+    pub joins_so : (h : Incoming) (x : Htlc) (xs : List Htlc) → x.key ≡ key_of id_of h → HasEntry h xs None
         → joined x xs ≡ left_out (is_htlc (key_of id_of h)) xs ++ x ∷ []
-    joins_so h x xs b key k =
+    joins_so h x xs key k =
         ap (λ z. cond (list_any (is_decided z) xs) xs (left_out (is_htlc z) xs ++ x ∷ [])) key
         ∙ ap (λ t. cond t xs (left_out (is_htlc (key_of id_of h)) xs ++ x ∷ []))
-        (any_of (key_of id_of h) xs ∙ none_decided (filter (is_htlc (key_of id_of h)) xs) b k)
+        (any_of (key_of id_of h) xs ∙ none_decided (filter (is_htlc (key_of id_of h)) xs) k)
 
     -- it stands alone
     pub joins_here : (h : Incoming) (x : Htlc) (xs : List Htlc) → x.key ≡ key_of id_of h
@@ -633,9 +632,9 @@ module _ (id_of : ℕ → List ℕ) where
         ∙ ap (λ ys. ys ++ filter q (x ∷ [])) (left_turn q q xs ∙ left_none q xs)
         ∙ ap (λ t. cond t (x ∷ []) []) (ap (same_key (key_of id_of h)) key ∙ is_key (key_of id_of h))
 
-    pub joins_there : (h : Incoming) (x : Htlc) (xs : List Htlc) (b : Bool) (o : Option Note)
-        → same_key x.key (key_of id_of h) ≡ false → HasEntry h xs b o → HasEntry h (joined x xs) b o
-    joins_there h x xs b o e k = cases (list_any (is_decided x.key) xs)
+    pub joins_there : (h : Incoming) (x : Htlc) (xs : List Htlc) (o : Option Note)
+        → same_key x.key (key_of id_of h) ≡ false → HasEntry h xs o → HasEntry h (joined x xs) o
+    joins_there h x xs o e k = cases (list_any (is_decided x.key) xs)
       where
         q : Htlc → Bool
         q = is_htlc (key_of id_of h)
@@ -648,35 +647,10 @@ module _ (id_of : ℕ → List ℕ) where
           | inr isnt ↦ isnt
         ]
 
-        cases : (t : Bool) → HasEntry h (cond t xs (left_out (is_htlc x.key) xs ++ x ∷ [])) b o
+        cases : (t : Bool) → HasEntry h (cond t xs (left_out (is_htlc x.key) xs ++ x ∷ [])) o
         cases true = k
-        cases false = subst (λ ys. AreEntries ys b o)
+        cases false = subst (λ ys. AreEntries ys o)
             (sym (filter-append q (left_out (is_htlc x.key) xs) (x ∷ [])
             ∙ ap (λ ys. ys ++ filter q (x ∷ [])) (left_turn (is_htlc x.key) q xs
             ∙ left_others (is_htlc x.key) q (apart x.key (key_of id_of h) e) xs)
             ∙ ap (λ t. filter q xs ++ cond t (x ∷ []) []) other ∙ append-nil (filter q xs))) k
-
-    -- ---- the channel has taken a decision
-
-    -- of an HTLC that isn't new nothing changes
-    pub decided_there : (h : Incoming) (p : Htlc → Bool) (xs : List Htlc) (b : Bool) (o : Option Note)
-        → (b ≡ true → ⊥) → HasEntry h xs b o → HasEntry h (changed_first p decide xs) b o
-    decided_there h p xs b o awake k = cases (filter q xs) k (changes_so p decide q (λ x. refl) xs)
-      where
-        q : Htlc → Bool
-        q = is_htlc (key_of id_of h)
-
-        now : List Htlc
-        now = filter q (changed_first p decide xs)
-
-        one_decided : (x : Htlc) (o : Option Note) → IsEntry x b o → IsEntry (decide x) b o
-        one_decided x None h = absurd (awake h.1)
-        one_decided x (Some n) h = (refl, record { mark = h.1.mark; outgoing = h.1.outgoing; incoming = h.1.incoming })
-
-        cases : (ys : List Htlc) → AreEntries ys b o → Changes p decide ys now → AreEntries now b o
-        cases [] k e = subst (λ ys. AreEntries ys b o) (sym (none_changes p decide now e)) k
-        cases (x ∷ []) k e = elim (one_changes p decide x now e) [
-          | inl same ↦ subst (λ ys. AreEntries ys b o) (sym same) k
-          | inr new ↦ subst (λ ys. AreEntries ys b o) (sym new.1) (one_decided x o k)
-        ]
-        cases (x ∷ y ∷ ys) k e = absurd k

@@ -1,7 +1,7 @@
 -- Each end stays fit, whatever it takes, and whatever its peer sends.
-use Rattle.std.proofs.Common.{◌≡◌, inl, inr, ℕ, zero, suc, ◌+◌, ◌-◌, ◌≤◌, ◌<◌, List, [], ◌∷◌, ◌++◌, length, take, drop}
-use Rattle.std.proofs.Common.{refl, sym, ap, ◌∙◌, subst, arith, Bool, true, false, cond, nat_lt, Option, Some, None, Ok}
-use Rattle.std.proofs.Common.{length-append, length-take, length-drop}
+use Rattle.std.proofs.Common.{◌≡◌, ℕ, zero, suc, ◌+◌, ◌-◌, ◌≤◌, List, [], ◌∷◌, ◌++◌, length, take, drop}
+use Rattle.std.proofs.Common.{refl, sym, ap, ◌∙◌, subst, arith, Bool, true, false, cond, nat_lt, Option, Some, None}
+use Rattle.std.proofs.Common.{length-append, length-take}
 use Rattle.std.specs.Prelude.{option_map}
 use Rattle.std.specs.List.{cons_option}
 use Rattle.std.proofs.lemmas.Bool.{eqb-true, ltb-true, ltb-false}
@@ -27,15 +27,13 @@ use Rattle.ln_log.proofs.Grows.{may_take, has_id}
 use Rattle.ln_log.proofs.Kept.{names_live}
 use Rattle.ln_log.proofs.Removing.{numbered-push, numbered-take, removals-push, removals-take, removals-more}
 use Rattle.ln_log.proofs.Totals.{longer}
-use Rattle.ln_channel.specs.declared.command.Command.{Command}
 use Rattle.ln_channel.specs.declared.command.Command.TheVariants as command
 use Rattle.ln_hooks.specs.declared.event.ChannelEvent.{ChannelEvent}
 use Rattle.ln_hooks.specs.Event.{event_of}
 use Rattle.ln_channel.specs.Ledger.{Ledger, first_htlc, refs_of, ref_of, entered, resulted, forgotten}
 use Rattle.ln_channel.specs.Since.{own_since, peer_since}
-use Rattle.ln_channel.specs.Base.{own_number, peer_number, lesser, least_peer, allowed, next_base, based}
-use Rattle.ln_channel.specs.Taking.{update_fault, early_fault}
-use Rattle.ln_channel.specs.Commands.{ledgered}
+use Rattle.ln_channel.specs.Base.{peer_number, lesser, least_peer, allowed, based}
+use Rattle.ln_channel.specs.Taking.{early_fault}
 use Rattle.ln_channel.specs.End.{End, end_dropped}
 use Rattle.ln_payment_circuits.specs.Snapshot.{All, IsBelow, IsFrom, IsSoundLog, IsFitLog, IsFit}
 use Rattle.ln_payment_circuits.specs.Shift.{Shift, Stays, Takes, Proposes, Signs, Accepts, Learns, Closes, Notes}

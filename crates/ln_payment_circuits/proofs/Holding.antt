@@ -1,17 +1,17 @@
 -- A payment that the book holds is held by its link: what every move keeps.
 use Rattle.std.specs.Prelude.{◌≡◌, List, [], ◌∷◌, Option, Some, None}
-use Rattle.std.proofs.Common.{ap, subst}
+use Rattle.std.proofs.Common.{ap, subst, ◌∙◌}
 use Rattle.ln_payment.specs.Parts.{Mark, Forward, Hold, Answer, Decision, Undecided, Decided, Past, Removal}
 use Rattle.ln_payment.specs.Parts.{OutgoingLeg, Absent, Refused, Offered, Resolved, IncomingLeg, Open, RemovalSent}
-use Rattle.ln_payment.specs.Parts.{RemovalRefused, Settled, Note, Payment}
+use Rattle.ln_payment.specs.Parts.{RemovalRefused, Settled, Note, Out, Payment}
 use Rattle.ln_payment.specs.Parts.{IsHeld}
 use Rattle.ln_payment.specs.Rebuild.{settled_note, note_by, note_of_result, note_read, outgoing_of, incoming_leg_of}
 use Rattle.ln_payment.specs.Rebuild.{kept_outs}
 use Rattle.ln_payment.specs.Rebuild.{kept_removal, everywhere, outgoing_read}
 use Rattle.ln_payment.specs.Moves.{Move, MayMove, AreMade, after, moved, with_outgoing, with_incoming, with_mark}
-use Rattle.ln_payment.specs.Moves.{settled}
+use Rattle.ln_payment.specs.Moves.{settled, IsDecided}
 use Rattle.ln_payment.specs.Moves as move
-use Rattle.ln_payment.proofs.Invariant.{IsKept, ForNote, Waits}
+use Rattle.ln_payment.proofs.Invariant.{IsKept, ForNote, Waits, IsEarly}
 use Rattle.ln_payment.proofs.Law.{kept}
 
 abbrev pub IsHoldOf : Decision → Note → Type 0
@@ -80,8 +80,27 @@ read_waits Undecided w r = tt
 read_waits (Decided m) w r = by_waits m w (incoming_leg_of r)
 read_waits Past w r = result_waits Past w
 
+-- of what isn't decided the book has no note
+none_waits : (d : Decision) (o : Option Note) → o ≡ None → ForNote (IsHoldOf d) o
+none_waits d None e = tt
+none_waits d (Some f) e = absurd (cc)
+
+undecided_none : (d : Decision) (r : Removal) (os : List Out) (o : Option Note) → d ≡ Undecided → IsEarly d r os o
+    → o ≡ None
+undecided_none Undecided r os o e f = f.2
+undecided_none (Decided n) r os o e f = absurd (cc)
+undecided_none Past r os o e f = absurd (cc)
+
+decided_waits : (m : Mark) (d : Decision) → IsDecided m d → m ≡ Hold → d ≡ Decided Hold
+decided_waits m Undecided a e = absurd a
+decided_waits m (Decided n) a e = ap Decided (a ∙ e)
+decided_waits m Past a e = absurd a
+
 pub holds : (v : Move) (p : Payment) → MayMove v p → IsKept p → HoldIsDecided p → HoldIsDecided (moved v p)
 holds (move.Decide m) p a k h = λ e. ap Decided e
+holds (move.Take m) p a k h =
+    none_waits (Decided m) p.note (undecided_none p.decision p.removal p.outs p.note a k.early)
+holds (move.Hear m) p a k h = λ e. decided_waits m p.decision a.0 e
 holds (move.Resume m) p a k h = mark_waits m p.note
 holds move.Clear p a k h = none_cleared p k a p.note h
 holds (move.Offer c i) p a k h = outgoing_waits p.decision (Offered c i) p.note h
@@ -102,6 +121,7 @@ holds (move.PutBack c i) p a k h = outgoing_waits p.decision Absent p.note h
 holds move.DropRemoval p a k h = h
 holds move.Reopen p a k h = back_waits p.decision Open p.note h
 holds (move.Halt c) p a k h = h
+holds (move.Reload c) p a k h = h
 holds (move.Restart still) p a k h =
     read_waits p.decision (outgoing_of still (kept_outs everywhere p.outs)) (kept_removal p.removal)
 

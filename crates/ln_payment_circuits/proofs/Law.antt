@@ -1,5 +1,5 @@
 -- Whatever happens to a node, its payments stay those of the machine.
-use Rattle.std.proofs.Common.{◌≡◌, ◌⊎◌, inl, inr, ℕ, List, [], ◌∷◌, ◌++◌, take, map, refl, sym, ap, ◌∙◌}
+use Rattle.std.proofs.Common.{◌≡◌, ◌⊎◌, inl, inr, ℕ, ◌≤◌, List, [], ◌∷◌, ◌++◌, take, map, refl, sym, ap, ◌∙◌}
 use Rattle.std.proofs.Common.{subst, arith, Bool, true, false, cond, not, ◌==◌, ◌&&◌, ◌||◌, Option, Some, None, Result}
 use Rattle.std.proofs.Common.{Ok, Err}
 use Rattle.std.proofs.Common.{nat_lt, nat_le}
@@ -12,10 +12,12 @@ use Rattle.ln_keys.specs.Signer.{Signer}
 use Rattle.ln_log.specs.declared.mark.Decision.{Decision as LogDecision}
 use Rattle.ln_log.specs.declared.mark.Mark.{Mark as LogMark}
 use Rattle.ln_log.specs.declared.mark.Mark.TheVariants as mark
+use Rattle.ln_log.specs.Mark.{is_held_by}
 use Rattle.ln_log.specs.declared.outcome.Outcome.TheVariants.{Live}
 use Rattle.ln_log.specs.declared.update.Update.{Update}
 use Rattle.ln_log.specs.Updates.{outcome, is_live, is_some, add_with, next_id}
 use Rattle.ln_log.specs.Log.{Log}
+use Rattle.ln_log.proofs.Removing.{next-front}
 use Rattle.ln_hooks.specs.declared.event.How.{How}
 use Rattle.ln_hooks.specs.declared.event.How.TheVariants as how
 use Rattle.ln_channel.specs.declared.command.Command.{Command}
@@ -39,14 +41,15 @@ use Rattle.ln_book_tables.specs.declared.entry.KeptState.{KeptState}
 use Rattle.ln_book_tables.specs.Replay.{same, is_htlc, is_told, htlc_of, joined, taken_by, refused_by, with_mark}
 use Rattle.ln_book_tables.specs.Replay.{with_outgoing}
 use Rattle.ln_book_tables.specs.Replay.{with_incoming, put_outgoing, put_incoming, left_out, changed_first, htlc_kept}
-use Rattle.ln_book_tables.specs.Replay.{is_among, decide}
+use Rattle.ln_book_tables.specs.Replay.{is_among, is_outgoing_lost, is_held_in, is_over, put_mark, decide}
 use Rattle.ln_book_tables.specs.Replay.{is_offered, is_finished, is_settled, has_nothing_offered, is_open}
 use Rattle.ln_book_tables.specs.Replay.{is_undecided, is_decided}
 use Rattle.ln_book.specs.Kept.{has_own_removal}
 use Rattle.ln_book.specs.Rebuild.{rebuilt_htlcs}
 use Rattle.ln_keys.specs.Services.{Services}
 use Rattle.ln_book.specs.Commands.{command_of, removal_by, forget_by, forwards_in, is_resolved_in}
-use Rattle.ln_payment.specs.Parts.{IsEnd, IsHeld, Undecided}
+use Rattle.ln_payment.specs.Parts.{IsEnd, IsHeld, Undecided, Offered, Note, Among, IsAt}
+use Rattle.ln_payment.specs.Parts.{Mark as PaymentMark, Decided as DecidedSo}
 use Rattle.ln_payment.specs.Rebuild.{everywhere, is_uncovered}
 use Rattle.ln_payment.specs.Moves.{is_of}
 use Rattle.ln_payment_circuits.specs.Snapshot.{Snapshot, Incoming, IsIn, All, AreFit, key_at, key_of, origin, is_gone}
@@ -54,14 +57,15 @@ use Rattle.ln_payment_circuits.specs.Snapshot.{snapshots}
 use Rattle.ln_payment_circuits.specs.Snapshot.{NonePasses, nothing_yet}
 use Rattle.ln_payment_circuits.specs.Shift.{Shift, Proposes, Notes, IsPlain}
 use Rattle.ln_payment_circuits.specs.Happens.{Happens, Goes, AreSame, Loses, IsNew, Asks, IsOnFirst, Tells, AreEnds}
+use Rattle.ln_payment_circuits.specs.Happens.{IsUnheard}
 use Rattle.ln_payment_circuits.specs.Happens.{obeyed}
 use Rattle.ln_payment_circuits.specs.Happens.{entered, outcome_of, HasOwnIds, AreMoments, last_of}
 use Rattle.ln_payment_circuits.specs.Happens as may
 use Rattle.ln_payment_circuits.proofs.Lists.{either, of_picked, among_changed}
 use Rattle.ln_payment_circuits.proofs.Parts.{course_by, ended_by, has_result}
-use Rattle.ln_payment_circuits.proofs.Logs.{uncovered_live_htlcs}
+use Rattle.ln_payment_circuits.proofs.Logs.{uncovered_live_htlcs, no_removal}
 use Rattle.ln_payment_circuits.proofs.Links.{Side, Links, HasAddAt, course_at, decision_at, decision_by, has_mark}
-use Rattle.ln_payment_circuits.proofs.Links.{removal_at}
+use Rattle.ln_payment_circuits.proofs.Links.{removal_at, decided_as, mark_as}
 use Rattle.ln_payment_circuits.proofs.Heard.{removal_is_held}
 use Rattle.ln_payment_circuits.proofs.Held.{some_held, found_of, among_last}
 use Rattle.ln_payment_circuits.proofs.Tidy.{tidy_dropped, decides_so, resumes_so, none_decided, none_in_base, Decides}
@@ -70,20 +74,26 @@ use Rattle.ln_payment_circuits.proofs.Shifts.{side_of, IsTidy, tidy_shift, tidy_
 use Rattle.ln_payment_circuits.proofs.Ledgers.{nothing}
 use Rattle.ln_payment_circuits.proofs.Preimages.{ArePaid, paid_shift, paid_dropped, paid_based}
 use Rattle.ln_payment_circuits.proofs.Waiting.{waiting_ids}
-use Rattle.ln_payment_circuits.proofs.Entries.{is_same, kind_of}
+use Rattle.ln_payment_circuits.proofs.Entries.{is_same, kind_of, HasEntry}
 use Rattle.ln_payment_circuits.proofs.OutgoingLegs.{AreBack, IsIncoming}
 use Rattle.ln_payment_circuits.proofs.Due.{IsDueBy, Forgets, Offers, Removes, due_by, forgets_so}
-use Rattle.ln_payment_circuits.proofs.Scenes.{Scene, HavePayments, links_go, offered, removed, disconnects}
+use Rattle.ln_payment_circuits.proofs.Scenes.{Scene, HavePayments, links_go, offered, removed, comes_back}
+use Rattle.ln_payment_circuits.proofs.Scenes.{by_moves, awake_there, works_still}
 use Rattle.ln_payment_circuits.proofs.Scenes.{settles, tells}
 use Rattle.ln_payment_circuits.proofs.Scenes.{restart}
 use Rattle.ln_payment_circuits.proofs.Scenes as scenes
-use Rattle.ln_payment_circuits.proofs.Answers.{decided, decided_book, add_refused, add_left, removal_refused}
+use Rattle.ln_payment_circuits.proofs.Answers.{decided, decided_book, waited, waiting_entry, waiting_undecided, heard}
+use Rattle.ln_payment_circuits.proofs.Answers.{decided_or_old, add_refused, add_left, removal_refused}
 use Rattle.ln_payment_circuits.proofs.Answers.{forget_refused}
 use Rattle.ln_payment_circuits.proofs.Answers as answers
 use Rattle.ln_payment_circuits.proofs.Resumed.{HoldAlike, resumed, agrees_resumed}
-use Rattle.ln_payment_circuits.proofs.Agrees.{IsStill, was_same, agrees_fewer, agrees_decided, agrees_rebuilt}
-use Rattle.ln_payment_circuits.proofs.Halts.{halts, halts_undecided, decision_refused}
+use Rattle.ln_payment_circuits.proofs.Agrees.{IsStill, was_same, agrees_fewer, agrees_taken, agrees_decided}
+use Rattle.ln_payment_circuits.proofs.Agrees.{agrees_rebuilt}
+use Rattle.ln_payment_circuits.proofs.Halts.{enters_undecided, halts, halts_undecided, decision_refused}
 use Rattle.ln_payment_circuits.proofs.Kept.{none_kept}
+use Rattle.ln_payment_circuits.proofs.Past.{IsOffer, WasOffer, IsPast, OldOffers, OffersNothing, offers_same, offers_as}
+use Rattle.ln_payment_circuits.proofs.Past.{offers_then, offers_left, offers_changed, offers_map, offers_last}
+use Rattle.ln_payment_circuits.proofs.Past.{offers_joined, past_on, past_halts, past_there}
 use Rattle.ln_payment_circuits.specs.Circuit.{PaysOnce}
 use Rattle.ln_payment_circuits.proofs.Promise.{begun, pays_once}
 use Rattle.ln_payment_circuits.proofs.Proposed.{IsProposed, IsAdd, add_is, IsRemoved, removing_is}
@@ -101,6 +111,7 @@ pub record IsKept (id_of : ℕ → List ℕ) (s : Snapshot) : Type 0 where
   pub paid : EachEnd (λ e. ArePaid e.dance.log) s
   pub payments : HavePayments id_of (scene_of s)
   pub alike : HoldAlike id_of (scene_of s)
+  pub past : IsPast id_of (scene_of s)
 
 -- ---- a book of which nothing is new but where HTLCs go and their removals
 
@@ -229,13 +240,28 @@ module _ (id_of : ℕ → List ℕ) (one : HasOwnIds id_of) where
         )
   ]
 
+  -- what is decided goes nowhere yet
+  decided_offers : (xs ys : List Htlc) (x : Htlc) (P : Htlc → Type 0) → x.outgoing ≡ outgoing.Absent
+      → ((y : Htlc) → IsIn y ys → (IsIn y xs × P y) ⊎ (decide x ≡ y)) → OldOffers id_of xs ys
+  decided_offers xs ys x P absent books h b i y old = elim (books y old.there) [
+    | inl before ↦
+        (y, record { there = before.0; key = old.key; decided = old.decided; outgoing = old.outgoing })
+    | inr new ↦ absurd (let no : ◌≡◌ {A = BookOutgoing} outgoing.Absent (outgoing.Offered (key_at id_of b i)) =
+        sym absent ∙ ap (λ (z : Htlc). z.outgoing) new ∙ old.outgoing in cc)
+  ]
+
   -- ---- an end goes on by a shift
 
   module _ (s t : Snapshot) (fit : AreFit id_of s) (k : IsKept id_of s) where
     module _ (c : ℕ) (e f : End) (g : Goes c (Some e) (based f) s t) (x : Shift e f) where
+      -- nothing new goes out by a link that has halted
+      abbrev OffersAwake : Type 0
+      OffersAwake = (h : Incoming) (d i : ℕ) (y : Htlc) → t.halted d ≡ true → IsOffer id_of t.book h d i y
+          → WasOffer id_of s.book h d i
+
       goes_on : HavePayments id_of (mid_scene id_of c e f s t g) → HoldAlike id_of (mid_scene id_of c e f s t g)
-          → IsKept id_of t
-      goes_on payments alike =
+          → OffersAwake → IsKept id_of t
+      goes_on payments alike offers =
           let le = first_kept e f (fit.fit c e g.before) x in
           record {
             tidy = each_goes IsTidy c (Some e) (based f) s t g
@@ -247,7 +273,23 @@ module _ (id_of : ℕ → List ℕ) (one : HasOwnIds id_of) where
               links = fewer_saved id_of c e f s t g;
               book = λ y m. (y, m, was_same y);
             }) alike;
+            past = past_on id_of (scene_of s) (scene_of t) halted_stays offers k.past;
           }
+        where
+          halted_stays : (d : ℕ) → t.halted d ≡ true
+              → (s.halted d ≡ true) × (option_map side_of (t.ends d) ≡ option_map side_of (s.ends d))
+          halted_stays d halted =
+              let was : s.halted d ≡ true = sym (g.halted d) ∙ halted in (
+                was,
+                elim (either (d == c)) [
+                  | inr isnt ↦ ap (option_map side_of) (g.others d isnt)
+                  | inl here ↦ absurd (let no : true ≡ false = sym was ∙ ap s.halted (eqb-true d c here)
+                      ∙ g.awake in cc)
+                ],
+              )
+
+      no_new : OldOffers id_of s.book t.book → OffersAwake
+      no_new old h d i y halted = old h d i y
 
       -- whose decisions are those that were there
       alike_mid : f.ledger.decisions ≡ e.ledger.decisions → HasOld s.book t.book
@@ -257,10 +299,11 @@ module _ (id_of : ℕ → List ℕ) (one : HasOwnIds id_of) where
 
       turns : IsPlain x → t.book ≡ s.book → IsKept id_of t
       turns plain book = goes_on
-          (λ h. links_go id_of h (scene_of s) (mid_scene id_of c e f s t g) book (λ d. refl) (k.payments h)
+          (λ h. links_go id_of h (scene_of s) (mid_scene id_of c e f s t g) book (k.payments h)
           (plain_shift (origin id_of) h c e f (links_of s) (mid id_of c e f s t g) (to_mid id_of c e f s t g)
           (fit.fit c e g.before) x plain (k.payments h).0 (k.payments h).1.of_links))
           (alike_mid (plain_decisions e f x plain) (old_same s.book t.book book))
+          (no_new (offers_same id_of s.book t.book book))
 
       -- ---- what a book asks is done
 
@@ -280,6 +323,23 @@ module _ (id_of : ℕ → List ℕ) (one : HasOwnIds id_of) where
           (alike_mid same_decisions (old_as s.book _ t.book book
           (old_changed (is_htlc x.key) (put_outgoing (outgoing.Offered (key_at id_of c (next_id e.dance.log.own))))
           (outgoing_still (outgoing.Offered (key_at id_of c (next_id e.dance.log.own)))) s.book)))
+          awake_alone
+        where
+          now_out : BookOutgoing
+          now_out = outgoing.Offered (key_at id_of c (next_id e.dance.log.own))
+
+          awake_alone : OffersAwake
+          awake_alone h d i y halted old = elim (among_changed (is_htlc x.key) (put_outgoing now_out) y s.book
+              (subst (IsIn y) book old.there)) [
+                | inl before ↦
+                    (y, record { there = before; key = old.key; decided = old.decided; outgoing = old.outgoing })
+                | inr new ↦
+                    let same_out : ◌≡◌ {A = BookOutgoing} now_out (outgoing.Offered (key_at id_of d i)) =
+                    ap (λ (z : Htlc). z.outgoing) new.3 ∙ old.outgoing in
+                    let keys : key_at id_of c (next_id e.dance.log.own) ≡ key_at id_of d i = cc in
+                    let at : c ≡ d = one c d (ap (λ (z : Key). z.channel) keys) in
+                    absurd (let no : true ≡ false = sym halted ∙ g.halted d ∙ ap s.halted (sym at) ∙ g.awake in cc)
+              ]
 
       removes : (v : Services) (x : Htlc) (y : Command) (u : IsRemoved x.key.id y e f) → IsIn x s.book
           → x.decided ≡ true → is_open x.incoming ≡ true → same (id_of c) x.key.channel ≡ true
@@ -298,6 +358,9 @@ module _ (id_of : ℕ → List ℕ) (one : HasOwnIds id_of) where
           one book k.payments)
           (alike_mid same_decisions (old_as s.book _ t.book book
           (old_changed (is_htlc x.key) (put_incoming incoming.RemovalSent) (back_still incoming.RemovalSent) s.book)))
+          (no_new (offers_as id_of s.book _ t.book book
+          (offers_changed id_of (is_htlc x.key) (put_incoming incoming.RemovalSent) (λ z j dec is. (refl, dec, is))
+          s.book)))
 
       forgets : (v : Services) (x : Htlc) (h : Incoming) (y : Command) (j : ℕ) → IsIn x s.book → x.decided ≡ true
           → x.key ≡ key_of id_of h → is_settled x.incoming ≡ true → is_resolved_in (id_of c) x.outgoing ≡ true
@@ -310,14 +373,22 @@ module _ (id_of : ℕ → List ℕ) (one : HasOwnIds id_of) where
           (to_mid id_of c e f s t g) (ap (λ (z : End). z.dance.log) now) v x h y j m dec key settled over asked is
           (ap (λ (z : End). z.ledger.results) now) same_decisions book k.payments)
           (alike_mid same_decisions (old_as s.book _ t.book book (old_left (is_htlc x.key) s.book)))
+          (no_new (offers_as id_of s.book _ t.book book (offers_left id_of (is_htlc x.key) s.book)))
 
       -- ---- what came in is decided
+
+      -- the decision joins the book, or waits there, and then the book hears that it was taken, or doesn't yet
+      abbrev DecidesBook : Decided → Offer → Type 0
+      DecidesBook d o =
+          (t.book ≡ changed_first (is_told (id_of c) d.event) decide (joined (htlc_of d o) s.book))
+          ⊎ (IsIn (htlc_of d o) s.book
+          × ((t.book ≡ changed_first (is_told (id_of c) d.event) decide s.book) ⊎ (t.book ≡ s.book)))
 
       decides : (d : Decided) (o : Offer) → IsOnFirst (id_of c) e s.book d o
           → Decides e.ledger f.ledger d.event d.mark (first_htlc e.dance.log e.ledger.undecided)
           → f.dance.log ≡ e.dance.log
-          → t.book ≡ changed_first (is_told (id_of c) d.event) decide (joined (htlc_of d o) s.book) → IsKept id_of t
-      decides d o on n log book = elim n.decisions [
+          → DecidesBook d o → IsKept id_of t
+      decides d o on n log entry = elim n.decisions [
         | inl nothing ↦ absurd (on.does_something nothing.0)
         | inr some ↦ with_decision some.0
             (let is : Some o.id ≡ Some some.0 = sym on.first ∙ some.1 in let same_id : o.id ≡ some.0 = cc in same_id)
@@ -344,24 +415,65 @@ module _ (id_of : ℕ → List ℕ) (one : HasOwnIds id_of) where
           key : new_one.key ≡ key_at id_of c o.id
           key = ap (λ z. record { channel = z; id = o.id }) on.channel_is
 
+          no_other : NonePasses (λ z. is_told (id_of c) d.event z && not (is_htlc (key_at id_of c o.id) z)) s.book
+          no_other = subst (λ i. NonePasses (λ z. is_told (id_of c) d.event z && not (is_htlc i z)) s.book) key
+              on.no_other
+
           with_decision : (id : ℕ) → o.id ≡ id
               → f.ledger.decisions ≡ e.ledger.decisions ++ record { id = id; mark = d.mark } ∷ [] → IsKept id_of t
           with_decision id same_id ds =
               let now : f.ledger.decisions ≡ e.ledger.decisions ++ one_decision ∷ [] =
               ds ∙ ap (λ i. e.ledger.decisions ++ record { id = i; mark = d.mark } ∷ []) (sym same_id) in
               let is_mark = has_mark d.mark on.does_something in
-              goes_on
-              (answers.decided id_of one (scene_of s) (mid_scene id_of c e f s t g) c (side_of e) (side_of f)
-              (to_mid id_of c e f s t g) log one_decision is_mark.0 new_one
-              (is_told (id_of c) d.event) n.results now is_mark.1
-              none base key refl refl refl hit on.none_of_it book k.payments)
-              (agrees_decided id_of one (scene_of s) (mid_scene id_of c e f s t g) c (side_of e) one_decision new_one
-              (ap (option_map side_of) g.before) key refl fresh (old_or_new now)
-              (decided_book id_of one (scene_of s) (mid_scene id_of c e f s t g) c (side_of e) (side_of f)
-              (to_mid id_of c e f s t g) log one_decision new_one (is_told (id_of c) d.event) none base key hit
-              on.none_of_it book
-              k.payments) k.alike)
+              elim entry [
+                | inl book ↦
+                    let now_book = decided_book id_of one (scene_of s) (mid_scene id_of c e f s t g) c (side_of e)
+                    (side_of f) (to_mid id_of c e f s t g) log one_decision new_one (is_told (id_of c) d.event) none
+                    base key hit no_other book k.payments in
+                    goes_on
+                    (answers.decided id_of one (scene_of s) (mid_scene id_of c e f s t g) c (side_of e) (side_of f)
+                    (to_mid id_of c e f s t g) log one_decision is_mark.0 new_one (is_told (id_of c) d.event) n.results
+                    now is_mark.1 none base key refl refl refl hit no_other book k.payments)
+                    (agrees_decided id_of one (scene_of s) (mid_scene id_of c e f s t g) c (side_of e) one_decision
+                    new_one (ap (option_map side_of) g.before) key refl fresh (old_or_new now) now_book k.alike)
+                    (no_new (offers_as id_of s.book _ t.book now_book (offers_then id_of s.book
+                    (left_out (is_htlc (key_at id_of c o.id)) s.book) _
+                    (offers_left id_of (is_htlc (key_at id_of c o.id)) s.book)
+                    (offers_last id_of (left_out (is_htlc (key_at id_of c o.id)) s.book) (decide new_one) refl))))
+                | inr waits ↦
+                    let alone = waited id_of one (scene_of s) (mid_scene id_of c e f s t g) c (side_of e) (side_of f)
+                    (to_mid id_of c e f s t g) log one_decision new_one key refl waits.0 k.payments in
+                    elim waits.1 [
+                      | inr book ↦ goes_on
+                          (answers.taken_unheard id_of one (scene_of s) (mid_scene id_of c e f s t g) c (side_of e)
+                          (side_of f) (to_mid id_of c e f s t g) log one_decision is_mark.0 new_one n.results now
+                          is_mark.1 none base key book k.payments)
+                          (agrees_taken id_of one (scene_of s) (mid_scene id_of c e f s t g) c (side_of e)
+                          one_decision new_one (ap (option_map side_of) g.before) key refl fresh (old_or_new now)
+                          (λ y m. let before : IsIn y s.book = subst (IsIn y) book m in inl (
+                            before,
+                            waiting_undecided id_of one s.book h0 new_one alone refl y before,
+                          )) k.alike)
+                          (no_new (offers_same id_of s.book t.book book))
+                      | inl book ↦
+                          let books = decided_or_old id_of one s.book t.book h0 new_one (is_told (id_of c) d.event)
+                          key no_other book refl alone in
+                          goes_on
+                          (answers.decided_waiting id_of one (scene_of s) (mid_scene id_of c e f s t g) c (side_of e)
+                          (side_of f) (to_mid id_of c e f s t g) log one_decision is_mark.0 new_one
+                          (is_told (id_of c) d.event) n.results now is_mark.1 none base key refl refl refl refl hit
+                          no_other waits.0 book k.payments)
+                          (agrees_taken id_of one (scene_of s) (mid_scene id_of c e f s t g) c (side_of e)
+                          one_decision new_one (ap (option_map side_of) g.before) key refl fresh (old_or_new now) books
+                          k.alike)
+                          (no_new (decided_offers s.book t.book new_one
+                          (λ z. z.key ≡ key_of id_of h0 → z.decided ≡ true → ⊥) refl books))
+                    ]
+              ]
             where
+              h0 : Incoming
+              h0 = record { channel = c; id = o.id }
+
               fresh : (z : LogDecision) → IsIn z e.ledger.decisions → z.id ≡ o.id → ⊥
               fresh z m is = not_there e.ledger.decisions z m o.id is none
 
@@ -397,11 +509,12 @@ module _ (id_of : ℕ → List ℕ) (one : HasOwnIds id_of) where
             | inr some ↦ absurd (some.3 refl)
           ] in
           goes_on
-          (λ h. links_go id_of h (scene_of s) (mid_scene id_of c e f s t g) book (λ d. refl) (k.payments h)
+          (λ h. links_go id_of h (scene_of s) (mid_scene id_of c e f s t g) book (k.payments h)
           (stay (origin id_of) h (links_of s) (mid id_of c e f s t g) (k.payments h).0
           (nothing (origin id_of) h c (side_of e) (side_of f) (links_of s) (mid id_of c e f s t g)
           (to_mid id_of c e f s t g) log d.results decisions (k.payments h).0 (k.payments h).1.of_links)))
           (alike_mid decisions (old_same s.book t.book book))
+          (no_new (offers_same id_of s.book t.book book))
 
       -- ---- what is held is decided
 
@@ -423,6 +536,10 @@ module _ (id_of : ℕ → List ℕ) (one : HasOwnIds id_of) where
           (agrees_resumed id_of one (scene_of s) (mid_scene id_of c e f s t g) c (side_of e) (side_of f)
           (to_mid id_of c e f s t g) log results event m r.answers decisions apart d.0 d.1 d.2 found k.alike book
           k.payments)
+          (no_new (offers_as id_of s.book _ t.book book (offers_then id_of s.book
+          (changed_first (is_held_in (id_of c) event) (put_mark m) s.book) _
+          (offers_changed id_of (is_held_in (id_of c) event) (put_mark m) (λ z j dec is. (refl, dec, is)) s.book)
+          (offers_left id_of is_over (changed_first (is_held_in (id_of c) event) (put_mark m) s.book)))))
 
     -- ---- channels lose what no signature covers
 
@@ -437,8 +554,9 @@ module _ (id_of : ℕ → List ℕ) (one : HasOwnIds id_of) where
     -- ---- nothing changes in its channels
 
     stays : AreSame s t → HavePayments id_of (record { links = links_of s; book = t.book })
-        → HoldAlike id_of (record { links = links_of s; book = t.book }) → IsKept id_of t
-    stays g payments alike = record {
+        → HoldAlike id_of (record { links = links_of s; book = t.book }) → OldOffers id_of s.book t.book
+        → IsKept id_of t
+    stays g payments alike offers = record {
       tidy = each_same IsTidy s t g k.tidy;
       paid = each_same (λ e. ArePaid e.dance.log) s t g k.paid;
       payments = payments_alike id_of (record { links = links_of s; book = t.book }) (scene_of t)
@@ -446,6 +564,9 @@ module _ (id_of : ℕ → List ℕ) (one : HasOwnIds id_of) where
           payments;
       alike = alike_by (record { links = links_of s; book = t.book }) (scene_of t) (decisions_same s t g)
           (old_same t.book t.book refl) alike;
+      past = past_on id_of (scene_of s) (scene_of t)
+          (λ c halted. (sym (g.halted c) ∙ halted, ap (option_map side_of) (g.ends c)))
+          (λ h c i y halted. offers h c i y) k.past;
     }
 
     same_alike : HasOld s.book t.book → HoldAlike id_of (record { links = links_of s; book = t.book })
@@ -465,6 +586,12 @@ module _ (id_of : ℕ → List ℕ) (one : HasOwnIds id_of) where
         (key_at id_of c i) incoming.Settled s.book) _
         (old_changed (is_htlc (key_at id_of c i)) (put_incoming incoming.Settled) (back_still incoming.Settled) s.book)
         (old_left (is_finished (key_at id_of c i)) (with_incoming (key_at id_of c i) incoming.Settled s.book)))))
+        (offers_as id_of s.book _ t.book book (offers_then id_of s.book
+        (with_incoming (key_at id_of c i) incoming.Settled s.book) _
+        (offers_changed id_of (is_htlc (key_at id_of c i)) (put_incoming incoming.Settled)
+        (λ z j dec at. (refl, dec, at)) s.book)
+        (offers_left id_of (is_finished (key_at id_of c i))
+        (with_incoming (key_at id_of c i) incoming.Settled s.book))))
       where
         held : (h : Incoming) → key_at id_of c i ≡ key_of id_of h
             → IsHeld (removal_at h.id ((links_of s).sides h.channel))
@@ -486,6 +613,10 @@ module _ (id_of : ℕ → List ℕ) (one : HasOwnIds id_of) where
         (same_alike (old_as s.book _ t.book book (old_changed (is_offered (key_at id_of c i))
         (put_outgoing (outgoing.Resolved (key_at id_of c i) w)) (outgoing_still (outgoing.Resolved
         (key_at id_of c i) w)) s.book)))
+        (offers_as id_of s.book _ t.book book (offers_changed id_of (is_offered (key_at id_of c i))
+        (put_outgoing (outgoing.Resolved (key_at id_of c i) w)) (λ z j dec at. absurd
+        (let no : ◌≡◌ {A = BookOutgoing} (outgoing.Resolved (key_at id_of c i) w) (outgoing.Offered j) = at in cc))
+        s.book))
       where
         l : Log
         l = e.dance.log
@@ -532,9 +663,13 @@ module _ (id_of : ℕ → List ℕ) (one : HasOwnIds id_of) where
               (add_refused id_of one (scene_of s) after refl x m dec uns now (id_of c) fwd is k.payments)
               (same_alike (old_as s.book _ t.book is
               (old_changed (is_htlc x.key) (put_outgoing outgoing.Refused) (outgoing_still outgoing.Refused) s.book)))
+              (offers_as id_of s.book _ t.book is (offers_changed id_of (is_htlc x.key) (put_outgoing outgoing.Refused)
+              (λ z j dec at. absurd (let no : ◌≡◌ {A = BookOutgoing} outgoing.Refused (outgoing.Offered j) = at in cc))
+              s.book))
           cases false is = stays g
               (add_left id_of one (scene_of s) after refl x m dec uns now (id_of c) fwd is k.payments)
               (same_alike (old_as s.book _ t.book is (old_left (is_htlc x.key) s.book)))
+              (offers_as id_of s.book _ t.book is (offers_left id_of (is_htlc x.key) s.book))
 
       refuses_removal : (v : Services) (y : Command) → is_open x.incoming ≡ true → removal_by v x x.mark ≡ Some y
           → t.book ≡ with_incoming x.key incoming.RemovalRefused s.book → IsKept id_of t
@@ -543,11 +678,14 @@ module _ (id_of : ℕ → List ℕ) (one : HasOwnIds id_of) where
           (same_alike (old_as s.book _ t.book book
           (old_changed (is_htlc x.key) (put_incoming incoming.RemovalRefused)
           (back_still incoming.RemovalRefused) s.book)))
+          (offers_as id_of s.book _ t.book book (offers_changed id_of (is_htlc x.key)
+          (put_incoming incoming.RemovalRefused) (λ z j d at. (refl, d, at)) s.book))
 
       refuses_forget : is_settled x.incoming ≡ true → t.book ≡ left_out (is_htlc x.key) s.book → IsKept id_of t
       refuses_forget settled book = stays g
           (forget_refused id_of one (scene_of s) after refl x m dec settled book k.payments)
           (same_alike (old_as s.book _ t.book book (old_left (is_htlc x.key) s.book)))
+          (offers_as id_of s.book _ t.book book (offers_left id_of (is_htlc x.key) s.book))
 
     -- ---- a decision that isn't taken
 
@@ -590,20 +728,46 @@ module _ (id_of : ℕ → List ℕ) (one : HasOwnIds id_of) where
             → t.book ≡ left_out (is_undecided (id_of c) d.event) (joined (htlc_of d o) s.book) → IsKept id_of t
         refuses_decision number g book = stays g
             (decision_refused id_of one (scene_of s) (record { links = links_of s; book = t.book }) refl c o.id
-            (htlc_of d o)
-            key undecided (is_undecided (id_of c) d.event) hit (fewer_pass s.book on.none_of_it) book k.payments)
+            (htlc_of d o) key undecided (is_undecided (id_of c) d.event) hit (fewer_pass s.book no_other) book
+            k.payments)
             (joined_alike (record { links = links_of s; book = t.book }) (λ b Y at z m. (Y, at, m))
             (λ y m. of_picked (λ z. not (is_undecided (id_of c) d.event z)) y (joined (htlc_of d o) s.book)
             (subst (IsIn y) book m)))
+            (offers_as id_of s.book _ t.book book (offers_then id_of s.book (joined (htlc_of d o) s.book) _
+            (offers_joined id_of (htlc_of d o) s.book refl)
+            (offers_left id_of (is_undecided (id_of c) d.event) (joined (htlc_of d o) s.book))))
           where
             hit : is_undecided (id_of c) d.event (htlc_of d o) ≡ true
             hit = ap (λ b. (b && same (id_of c) d.channel) && true) (eq-eqb d.event d.event refl)
                 ∙ ap (λ b. b && true) (is_same (id_of c) d.channel (sym on.channel_is))
 
-            fewer_pass : (xs : List Htlc) → NonePasses (is_told (id_of c) d.event) xs
-                → NonePasses (is_undecided (id_of c) d.event) xs
+            theirs : Htlc → Bool
+            theirs z = not (is_htlc (key_at id_of c o.id) z)
+
+            no_other : NonePasses (λ z. is_told (id_of c) d.event z && theirs z) s.book
+            no_other = subst (λ i. NonePasses (λ z. is_told (id_of c) d.event z && not (is_htlc i z)) s.book) key
+                on.no_other
+
+            less : (a b r : Bool) → (a && r) ≡ false → ((a && b) && r) ≡ false
+            less true true r e = e
+            less true false r e = refl
+            less false b r e = refl
+
+            fewer_pass : (xs : List Htlc) → NonePasses (λ z. is_told (id_of c) d.event z && theirs z) xs
+                → NonePasses (λ z. is_undecided (id_of c) d.event z && theirs z) xs
             fewer_pass [] n = tt
-            fewer_pass (x ∷ xs) n = (ap (λ b. b && not x.decided) n.0, fewer_pass xs n.1)
+            fewer_pass (x ∷ xs) n =
+                (less (is_told (id_of c) d.event x) (not x.decided) (theirs x) n.0, fewer_pass xs n.1)
+
+        enters_decision : AreSame s t → t.book ≡ joined (htlc_of d o) s.book → IsKept id_of t
+        enters_decision g book = stays g
+            (λ h. let p = k.payments h in by_moves id_of h (record { links = links_of s; book = t.book }) p.0
+            (p.1.kept, p.1.holds) [] tt p.1.of_links
+            (subst (λ xs. HasEntry id_of h xs p.0.note) (sym book)
+            (enters_undecided id_of one (scene_of s) c o.id (htlc_of d o) key refl undecided k.payments h)))
+            (joined_alike (record { links = links_of s; book = t.book }) (λ b Y at z m. (Y, at, m))
+            (λ y. subst (IsIn y) book))
+            (offers_as id_of s.book _ t.book book (offers_joined id_of (htlc_of d o) s.book refl))
 
         halts_deciding : Loses (is_of c) s t → ((b : ℕ) → t.halted b ≡ ((b == c) || s.halted b))
             → t.book ≡ joined (htlc_of d o) s.book → IsKept id_of t
@@ -613,7 +777,74 @@ module _ (id_of : ℕ → List ℕ) (one : HasOwnIds id_of) where
           payments = halts_undecided id_of one (scene_of s) (scene_of t) c (drops (is_of c) s t fit.fit g) now o.id
               (htlc_of d o) key refl undecided book k.payments;
           alike = joined_alike (scene_of t) (decisions_lost (is_of c) s t g) (λ y. subst (IsIn y) book);
+          past = past_halts id_of one (scene_of s) (scene_of t) c (drops (is_of c) s t fit.fit g) now
+              (offers_as id_of s.book _ t.book book (offers_joined id_of (htlc_of d o) s.book refl)) k.payments k.past;
         }
+
+    -- ---- a decision that was taken is heard of
+
+    hears_decision : (c : ℕ) (e : End) → s.ends c ≡ Some e → (d : Decided) (o : Offer)
+        → IsUnheard (id_of c) e s.book d o → AreSame s t
+        → t.book ≡ changed_first (is_told (id_of c) d.event) decide s.book → IsKept id_of t
+    hears_decision c e is d o u g book = stays g
+        (heard id_of one (scene_of s) after refl c o.id new_one m.0 (is_told (id_of c) d.event) key m.1 refl refl refl
+        decided_now (ap (λ q. removal_at o.id (option_map side_of q)) is ∙ no_removal e.dance.log o.id u.not_removed)
+        hit no_other u.waits book k.payments)
+        alike
+        (decided_offers s.book t.book new_one (λ z. z.key ≡ key_of id_of h0 → z.decided ≡ true → ⊥) refl books)
+      where
+        new_one : Htlc
+        new_one = htlc_of d o
+
+        h0 : Incoming
+        h0 = record { channel = c; id = o.id }
+
+        after : Scene
+        after = record { links = links_of s; book = t.book }
+
+        m : (n : PaymentMark) × (mark_as d.mark ≡ Some n)
+        m = has_mark d.mark u.does_something
+
+        key : new_one.key ≡ key_at id_of c o.id
+        key = ap (λ z. record { channel = z; id = o.id }) u.channel_is
+
+        hit : is_told (id_of c) d.event new_one ≡ true
+        hit = ap (λ b. b && same (id_of c) d.channel) (eq-eqb d.event d.event refl)
+            ∙ is_same (id_of c) d.channel (sym u.channel_is)
+
+        no_other : NonePasses (λ z. is_told (id_of c) d.event z && not (is_htlc (key_at id_of c o.id) z)) s.book
+        no_other = subst (λ i. NonePasses (λ z. is_told (id_of c) d.event z && not (is_htlc i z)) s.book) key u.no_other
+
+        decided_now : decision_at o.id ((links_of s).sides c) ≡ DecidedSo m.0
+        decided_now = ap (λ q. decision_at o.id (option_map side_of q)) is
+            ∙ ap (λ q. decision_by q (is_gone o.id (take e.dance.log.first.own e.dance.log.own))) u.decided
+            ∙ ap decided_as m.1
+
+        books : (y : Htlc) → IsIn y t.book
+            → (IsIn y s.book × (y.key ≡ key_of id_of h0 → y.decided ≡ true → ⊥)) ⊎ (decide new_one ≡ y)
+        books = decided_or_old id_of one s.book t.book h0 new_one (is_told (id_of c) d.event) key no_other book refl
+            (waiting_entry id_of one s.book h0 new_one (k.payments h0).0.note u.waits refl key (k.payments h0).1.note).1
+
+        alike : HoldAlike id_of after
+        alike b Y at z z_in y y_in y_key dec n held = elim (books y y_in) [
+          | inl old ↦ k.alike b Y at z z_in y old.0 y_key dec n held
+          | inr new ↦
+              let keys : key_at id_of c o.id ≡ key_at id_of b z.id = sym key ∙ ap (λ (q : Htlc). q.key) new ∙ y_key in
+              let chan : c ≡ b = one c b (ap (λ (q : Key). q.channel) keys) in
+              let some : Some (side_of e) ≡ Some Y =
+              sym (ap (option_map side_of) is) ∙ ap (λ i. (links_of s).sides i) chan ∙ at in
+              let same_side : side_of e ≡ Y = cc in
+              let mine : IsIn z e.ledger.decisions = subst (λ (q : Side). IsIn z q.decisions) (sym same_side) z_in in
+              let found : find (λ q. q.id == z.id) e.ledger.decisions ≡ Some z =
+              found_of 0 e.ledger.decisions (waiting_ids e.dance.log.received e.ledger.undecided)
+              (next_id (take e.dance.log.acknowledged.peer e.dance.log.received)) z (k.tidy c e is).ids mine in
+              let both : ◌≡◌ {A = Option LogDecision} (Some (record { id = o.id; mark = d.mark })) (Some z) =
+              sym u.decided ∙ ap (λ i. find (λ q. q.id == i) e.ledger.decisions) (ap (λ (q : Key). q.id) keys)
+              ∙ found in
+              let same_decision : ◌≡◌ {A = LogDecision} (record { id = o.id; mark = d.mark }) z = cc in
+              ap (λ (q : LogDecision). is_held_by n q.mark) (sym same_decision)
+              ∙ ap (λ (q : Htlc). is_held_by n q.mark) new ∙ held
+        ]
 
     -- ---- links halt, disconnect, and come back
 
@@ -624,15 +855,20 @@ module _ (id_of : ℕ → List ℕ) (one : HasOwnIds id_of) where
       paid = lost_paid (is_of c) g;
       payments = halts id_of one (scene_of s) (scene_of t) c (drops (is_of c) s t fit.fit g) now book k.payments;
       alike = alike_by (scene_of s) (scene_of t) (decisions_lost (is_of c) s t g) (old_same s.book t.book book) k.alike;
+      past = past_halts id_of one (scene_of s) (scene_of t) c (drops (is_of c) s t fit.fit g) now
+          (offers_same id_of s.book t.book book) k.payments k.past;
     }
 
-    disconnects_at : AreFit id_of t → (c : ℕ) (e : End) (told : KeptState) → s.ends c ≡ Some e → s.halted c ≡ false
-        → Tells (id_of c) (end_dropped e) s.book told → Loses (is_of c) s t → ((d : ℕ) → t.halted d ≡ s.halted d)
-        → t.book ≡ map (htlc_kept (id_of c) told) s.book → IsKept id_of t
-    disconnects_at fit_now c e told is awake tells g now book = record {
+    -- a link works still, or again, without its connection
+    comes_back_at : AreFit id_of t → (c : ℕ) (e : End) (told : KeptState) → s.ends c ≡ Some e
+        → Tells (id_of c) (end_dropped e) s.book told → Loses (is_of c) s t
+        → ((d : ℕ) → t.halted d ≡ (not (d == c) && s.halted d)) → t.book ≡ map (htlc_kept (id_of c) told) s.book
+        → ((h : Incoming) (p : scenes.HasPayment id_of h (scene_of s)) (n : Note) (i : ℕ) → p.0.note ≡ Some n
+        → n.outgoing ≡ Offered c i → nat_le told.next i ≡ false → Among (IsAt c i) p.0.outs) → IsKept id_of t
+    comes_back_at fit_now c e told is tells g now book there = record {
       tidy = lost_tidy (is_of c) g;
       paid = lost_paid (is_of c) g;
-      payments = disconnects id_of one (scene_of s) (scene_of t) c told (drops (is_of c) s t fit.fit g) now awake book
+      payments = comes_back id_of one (scene_of s) (scene_of t) c told (drops (is_of c) s t fit.fit g) now book
           (λ i lt. ap (λ o. is_uncovered (course_at i (option_map side_of o))) is
           ∙ covered e (fit.fit c e is) i (sym (ap (λ n. nat_le n i) tells.next) ∙ lt))
           (λ o i le a. gone e (fit.fit c e is) o i (sym (ap (λ n. nat_le n i) tells.next) ∙ le)
@@ -643,9 +879,12 @@ module _ (id_of : ℕ → List ℕ) (one : HasOwnIds id_of) where
           ∙ none_kept (λ j. has_own_removal j (end_dropped e).dance.log) (id_of c) s.book z m
           (is_same (id_of c) z.key.channel (sym (ap (λ (j : Key). j.channel) key)))
           (sym (ap (is_among z.key.id) tells.removes) ∙ ap (λ (j : Key). is_among j.id told.removes) key ∙ none)))
-          k.payments;
+          there k.payments;
       alike = alike_by (scene_of s) (scene_of t) (decisions_lost (is_of c) s t g)
           (old_as s.book _ t.book book (old_map (htlc_kept (id_of c) told) kept_still s.book)) k.alike;
+      past = past_on id_of (scene_of s) (scene_of t) halted_stays
+          (λ h d i y halted. offers_as id_of s.book _ t.book book
+          (offers_map id_of (htlc_kept (id_of c) told) nothing_new s.book) h d i y) k.past;
     }
       where
         ends_now : t.ends c ≡ Some (end_dropped e)
@@ -653,6 +892,41 @@ module _ (id_of : ℕ → List ℕ) (one : HasOwnIds id_of) where
 
         kept_still : (x : Htlc) → IsStill (htlc_kept (id_of c) told x) x
         kept_still x = record { key = refl; mark = refl; decided = λ d. d }
+
+        nothing_new : OffersNothing id_of (htlc_kept (id_of c) told)
+        nothing_new x j dec = cases (is_outgoing_lost (id_of c) told.next x.outgoing)
+          where
+            cases : (b : Bool) → cond b outgoing.Absent x.outgoing ≡ outgoing.Offered j
+                → (x.key ≡ x.key) × (x.decided ≡ true) × (x.outgoing ≡ outgoing.Offered j)
+            cases true f = absurd (cc)
+            cases false f = (refl, dec, f)
+
+        halted_stays : (d : ℕ) → t.halted d ≡ true
+            → (s.halted d ≡ true) × (option_map side_of (t.ends d) ≡ option_map side_of (s.ends d))
+        halted_stays d halted = elim (either (d == c)) [
+          | inl here ↦ absurd (let no : true ≡ false = sym halted ∙ now d ∙ ap (λ b. not b && s.halted d) here in cc)
+          | inr isnt ↦ (
+            sym (ap (λ b. not b && s.halted d) isnt) ∙ sym (now d) ∙ halted,
+            ap (option_map side_of) (g.others d isnt),
+          )
+        ]
+
+    disconnects_at : AreFit id_of t → (c : ℕ) (e : End) (told : KeptState) → s.ends c ≡ Some e → s.halted c ≡ false
+        → Tells (id_of c) (end_dropped e) s.book told → Loses (is_of c) s t → ((d : ℕ) → t.halted d ≡ s.halted d)
+        → t.book ≡ map (htlc_kept (id_of c) told) s.book → IsKept id_of t
+    disconnects_at fit_now c e told is awake tells g same_halted book =
+        comes_back_at fit_now c e told is tells g (works_still id_of c (scene_of s) (scene_of t) awake same_halted) book
+        (λ h p n i note to near. awake_there id_of c (scene_of s) awake h p n i note to)
+
+    reloads_at : AreFit id_of t → (c : ℕ) (e : End) (told : KeptState) → s.ends c ≡ Some e → s.halted c ≡ true
+        → Tells (id_of c) (end_dropped e) s.book told → Loses (is_of c) s t
+        → ((d : ℕ) → t.halted d ≡ (not (d == c) && s.halted d)) → t.book ≡ map (htlc_kept (id_of c) told) s.book
+        → IsKept id_of t
+    reloads_at fit_now c e told is halted tells g now book =
+        comes_back_at fit_now c e told is tells g now book
+        (past_there id_of one (scene_of s) c told.next (side_of e) (ap (option_map side_of) is) halted
+        (subst (λ n. n ≤ next_id e.dance.log.own) (sym tells.next) (next-front e.dance.log.signed.own e.dance.log.own))
+        k.past)
 
     restarts_all : AreFit id_of t → (es : List (ℕ × End)) → Loses everywhere s t → ((d : ℕ) → t.halted d ≡ false)
         → AreEnds t es → t.book ≡ rebuilt_htlcs (snapshots es) → IsKept id_of t
@@ -662,6 +936,7 @@ module _ (id_of : ℕ → List ℕ) (one : HasOwnIds id_of) where
       payments = restart id_of one (scene_of s) (scene_of t) es
           (drops everywhere s t fit.fit g) none incoming book k.payments;
       alike = agrees_rebuilt id_of one (scene_of t) es incoming book;
+      past = λ h c i x o halted. absurd (let no : true ≡ false = sym halted ∙ none c in cc);
     }
       where
         tidy_now : EachEnd IsTidy t
@@ -711,8 +986,21 @@ module _ (id_of : ℕ → List ℕ) (one : HasOwnIds id_of) where
       paid = each_goes (λ z. ArePaid z.dance.log) c None e s t g (paid_new e new) k.paid;
       payments = payments_alike id_of (scene_of s) (scene_of t) (opened_links e new c s t g) book k.payments;
       alike = alike_by (scene_of s) (scene_of t) old (old_same s.book t.book book) k.alike;
+      past = past_on id_of (scene_of s) (scene_of t) halted_stays
+          (λ h d i y halted. offers_same id_of s.book t.book book h d i y) k.past;
     }
       where
+        halted_stays : (d : ℕ) → t.halted d ≡ true
+            → (s.halted d ≡ true) × (option_map side_of (t.ends d) ≡ option_map side_of (s.ends d))
+        halted_stays d halted =
+            let was : s.halted d ≡ true = sym (g.halted d) ∙ halted in (
+              was,
+              elim (either (d == c)) [
+                | inr isnt ↦ ap (option_map side_of) (g.others d isnt)
+                | inl here ↦ absurd (let no : true ≡ false = sym was ∙ ap s.halted (eqb-true d c here) ∙ g.awake in cc)
+              ],
+            )
+
         old : HasOldDecisions (links_of s) (links_of t)
         old b Y is d m = elim (either (b == c)) [
           | inr isnt ↦ (Y, sym (ap (option_map side_of) (g.others b isnt)) ∙ is, m)
@@ -768,7 +1056,20 @@ module _ (id_of : ℕ → List ℕ) (one : HasOwnIds id_of) where
     kept now (may.Decides c e d o turn queue on done g book) =
         let n = noted (command.Decide d.event d.mark) e turn done in
         decides c e turn.end g (Notes (command.Decide d.event d.mark) n.0 n.1) d o on
-        (decides_so d.event d.mark (first_htlc e.dance.log e.ledger.undecided) e.ledger turn.end.ledger n.1) n.0 book
+        (decides_so d.event d.mark (first_htlc e.dance.log e.ledger.undecided) e.ledger turn.end.ledger n.1) n.0
+        (inl book)
+    kept now (may.EntersDecision c e d o is on g book) = enters_decision c e is d o on g book
+    kept now (may.TakesDecision c e d o turn queue on waits done g book) =
+        let n = noted (command.Decide d.event d.mark) e turn done in
+        decides c e turn.end g (Notes (command.Decide d.event d.mark) n.0 n.1) d o on
+        (decides_so d.event d.mark (first_htlc e.dance.log e.ledger.undecided) e.ledger turn.end.ledger n.1) n.0
+        (inr (waits, inl book))
+    kept now (may.TakesUnheard c e d o turn on waits done g book) =
+        let n = noted (command.Decide d.event d.mark) e turn done in
+        decides c e turn.end g (Notes (command.Decide d.event d.mark) n.0 n.1) d o on
+        (decides_so d.event d.mark (first_htlc e.dance.log e.ledger.undecided) e.ledger turn.end.ledger n.1) n.0
+        (inr (waits, inr book))
+    kept now (may.HearsDecision c e d o queue is unheard g book) = hears_decision c e is d o unheard g book
     kept now (may.RefusesDecision c e d o number is on g book) = refuses_decision c e is d o on number g book
     kept now (may.HaltsDeciding c e d o is on g halted book) = halts_deciding c e is d o on g halted book
     kept now (may.DecidesNothing c e event turn done g book) =
@@ -782,6 +1083,8 @@ module _ (id_of : ℕ → List ℕ) (one : HasOwnIds id_of) where
     kept now (may.Halts c g halted book) = halts_at c g halted book
     kept now (may.Disconnects c e told is awake tells g halted book) =
         disconnects_at now c e told is awake tells g halted book
+    kept now (may.Reloads c e told is halted tells g awake book) =
+        reloads_at now c e told is halted tells g awake book
     kept now (may.Restarts es g none ends book) = restarts_all now es g none ends book
 
   -- ---- one after the other
@@ -792,6 +1095,7 @@ module _ (id_of : ℕ → List ℕ) (one : HasOwnIds id_of) where
     paid = λ c e is. absurd (cc);
     payments = begun id_of;
     alike = λ c X is d m x in_book. absurd in_book;
+    past = λ h c i x o halted. absurd o.there;
   }
 
   no_ends : AreFit id_of nothing_yet

@@ -35,6 +35,7 @@ pub mod OutgoingLegs  -- where an HTLC goes out, over all ends
 pub mod IncomingLegs  -- off the end by which it came in
 pub mod Rebuilt  -- of one HTLC
 pub mod AllEnds  -- over all ends
+pub mod Withheld  -- what was removed while it was held goes nowhere
 pub mod Reading  -- it came in by a channel, and no event tells of it
 -- ---- links and book together
 pub mod Holding  -- a payment that the book holds is held by its link
@@ -43,6 +44,7 @@ pub mod Answers  -- what decisions, forgotten results and refusals do
 pub mod Resumed  -- what is resumed
 pub mod Agrees  -- book and ledgers hold an HTLC by the same number
 pub mod Halts  -- a link that halts
+pub mod Past  -- what went out of it: its end has that add, or none of that id yet
 -- ---- a node from moment to moment
 pub mod Moments  -- as its payments see it
 pub mod Alike  -- where a payment's parts are the same; a channel opens

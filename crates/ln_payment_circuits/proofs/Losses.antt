@@ -149,23 +149,24 @@ module _ (origin : Incoming → List ℕ × ℕ) (h : Incoming) (f : ℕ → Boo
 
 module _ (origin : Incoming → List ℕ × ℕ) (h : Incoming) (s t : Links) where
   module _ (c : ℕ) (g : Drops (is_of c) s t) where
-    pub falls_here : ((d : ℕ) → t.halted d ≡ s.halted d) → (h.channel == c) ≡ true → (p : Payment)
+    -- a link that works again, or still
+    pub falls_here : ((d : ℕ) → t.halted d ≡ (not (d == c) && s.halted d)) → (h.channel == c) ≡ true → (p : Payment)
         → IsOfLinks origin h s p
-        → IsOfLinks origin h t (moved move.DropRemoval (moved (move.Drop c) p))
-    falls_here same is p k = record {
+        → IsOfLinks origin h t (moved move.DropRemoval (moved (move.Reload c) (moved (move.Drop c) p)))
+    falls_here now is p k = record {
       decision = decision_kept origin h (is_of c) s t g p k;
       removal = removal_left origin h (is_of c) s t g is p k;
       outs = outs_kept origin h (is_of c) s t g p.outs k.outs;
-      halted = λ d. k.halted d ∙ sym (same d);
+      halted = λ d. ap (λ b. not (d == c) && b) (k.halted d) ∙ sym (now d);
     }
 
-    pub falls_elsewhere : ((d : ℕ) → t.halted d ≡ s.halted d) → (h.channel == c) ≡ false → (p : Payment)
-        → IsOfLinks origin h s p → IsOfLinks origin h t (moved (move.Drop c) p)
-    falls_elsewhere same isnt p k = record {
+    pub falls_elsewhere : ((d : ℕ) → t.halted d ≡ (not (d == c) && s.halted d)) → (h.channel == c) ≡ false
+        → (p : Payment) → IsOfLinks origin h s p → IsOfLinks origin h t (moved (move.Reload c) (moved (move.Drop c) p))
+    falls_elsewhere now isnt p k = record {
       decision = decision_kept origin h (is_of c) s t g p k;
       removal = removal_same origin h (is_of c) s t g isnt p k;
       outs = outs_kept origin h (is_of c) s t g p.outs k.outs;
-      halted = λ d. k.halted d ∙ sym (same d);
+      halted = λ d. ap (λ b. not (d == c) && b) (k.halted d) ∙ sym (now d);
     }
 
     pub halts_here : ((d : ℕ) → t.halted d ≡ ((d == c) || s.halted d)) → (h.channel == c) ≡ true → (p : Payment)

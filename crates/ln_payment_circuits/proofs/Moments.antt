@@ -110,7 +110,7 @@ module _ (id_of : ℕ → List ℕ) (c : ℕ) (e f : End) (s t : Snapshot) (g : 
 
   pub saved : f.dance.log.first.own ≤ f.dance.log.current.own → HavePayments id_of mid_scene
       → HavePayments id_of (scene_of t)
-  saved le k h = links_go id_of h mid_scene (scene_of t) refl g.halted (k h)
+  saved le k h = links_go id_of h mid_scene (scene_of t) refl (k h)
       (base_shift (origin id_of) h c f mid (links_of t) from_mid le (k h).0 (k h).1.of_links)
 
   -- each decision that is saved was there between

@@ -1,6 +1,6 @@
 -- What a book is read off ends that say which HTLCs they forward: no event tells of any of its HTLCs, and each came in
 -- by a channel.
-use Rattle.std.proofs.Common.{◌≡◌, inl, ℕ, List, [], ◌∷◌, take, refl, sym, ap, ◌∙◌, subst}
+use Rattle.std.proofs.Common.{◌≡◌, ℕ, List, [], ◌∷◌, refl}
 use Rattle.std.proofs.Common.{Bool, true, false, cond, Option, Some, None}
 use Rattle.std.specs.List.{cons_option}
 use Rattle.ln_log.specs.declared.mark.Decision.{Decision}

@@ -87,15 +87,15 @@ module _ (id_of : ℕ → List ℕ) where
   found_by v b x = cond (is_settled b && (has_no_outgoing (outgoing_read x.mark b v) && not (is_held x.mark))) []
       (read_by v b x ∷ [])
 
-  turned : (t : Bool) (x : Htlc) (o : Option Note) → AreEntries id_of (cond (not t) (x ∷ []) []) false o
-      → AreEntries id_of (cond t [] (x ∷ [])) false o
+  turned : (t : Bool) (x : Htlc) (o : Option Note) → AreEntries id_of (cond (not t) (x ∷ []) []) o
+      → AreEntries id_of (cond t [] (x ∷ [])) o
   turned true x o h = h
   turned false x o h = h
 
   by_back : (x : Htlc) (n : Mark) (v : BookOutgoing) (w : OutgoingLeg) → mark_as x.mark ≡ Some n
       → IsOutgoingOf id_of v w
       → x.decided ≡ true → (z : BookIncoming) → (z ≡ incoming.RemovalRefused → ⊥)
-      → AreEntries id_of (found_by v z x) false (note_by n w (incoming_as z))
+      → AreEntries id_of (found_by v z x) (note_by n w (incoming_as z))
   by_back x n v w e is d incoming.Open gone = (
     d,
     record {
@@ -116,14 +116,14 @@ module _ (id_of : ℕ → List ℕ) where
       turned (has_no_outgoing (outgoing_read x.mark incoming.Settled v) && not (is_held x.mark))
       (read_by v incoming.Settled x)
       (payment.settled_note n (payment.outgoing_read n w))
-      (settled_some id_of (read_by v incoming.Settled x) n (payment.outgoing_read n w) false d e
+      (settled_some id_of (read_by v incoming.Settled x) n (payment.outgoing_read n w) d e
       (outgoing_so x.mark n v w e is))
 
   -- all of it
   pub read_one : (x : Htlc) (n : Mark) (v : BookOutgoing) (w : OutgoingLeg) (b : IncomingLeg)
       → mark_as x.mark ≡ Some n → IsOutgoingOf id_of v w
       → incoming_as x.incoming ≡ b → (x.incoming ≡ incoming.RemovalRefused → ⊥) → x.decided ≡ true
-      → AreEntries id_of (found_by v x.incoming x) false (note_by n w b)
+      → AreEntries id_of (found_by v x.incoming x) (note_by n w b)
   read_one x n v w b e is same gone d =
-      subst (λ y. AreEntries id_of (found_by v x.incoming x) false (note_by n w y)) same
+      subst (λ y. AreEntries id_of (found_by v x.incoming x) (note_by n w y)) same
       (by_back x n v w e is d x.incoming gone)

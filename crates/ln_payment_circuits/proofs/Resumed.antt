@@ -70,12 +70,12 @@ module _ (id_of : ℕ → List ℕ) where
 
   -- ---- those about which nothing is left to be done go
 
-  closes_by : (x : Htlc) (b : Bool) (o : Option Note) → IsEntry id_of x b o → (t : Bool) → is_over x ≡ t
-      → AreEntries id_of (cond (not t) (x ∷ []) []) b o ⊎ (IsSettled o × AreEntries id_of
-      (cond (not t) (x ∷ []) []) b None)
-  closes_by x b o k false e = inl k
-  closes_by x b None k true e = inl refl
-  closes_by x b (Some n) k true e = inr (
+  closes_by : (x : Htlc) (o : Option Note) → IsEntry id_of x o → (t : Bool) → is_over x ≡ t
+      → AreEntries id_of (cond (not t) (x ∷ []) []) o ⊎ (IsSettled o × AreEntries id_of
+      (cond (not t) (x ∷ []) []) None)
+  closes_by x o k false e = inl k
+  closes_by x None k true e = inl refl
+  closes_by x (Some n) k true e = inr (
     sym k.1.incoming ∙ settled_as x (and_parts (is_settled x.incoming) (has_no_outgoing x.outgoing && not
         (is_held x.mark)) e).0,
     refl,
@@ -90,11 +90,11 @@ module _ (id_of : ℕ → List ℕ) where
           cases incoming.RemovalRefused f = absurd (cc)
           cases incoming.Settled f = refl
 
-  closes : (ys : List Htlc) (b : Bool) (o : Option Note) → AreEntries id_of ys b o
-      → AreEntries id_of (left_out is_over ys) b o ⊎ (IsSettled o × AreEntries id_of (left_out is_over ys) b None)
-  closes [] b o k = inl k
-  closes (x ∷ []) b o k = closes_by x b o k (is_over x) refl
-  closes (x ∷ y ∷ ys) b o k = absurd k
+  closes : (ys : List Htlc) (o : Option Note) → AreEntries id_of ys o
+      → AreEntries id_of (left_out is_over ys) o ⊎ (IsSettled o × AreEntries id_of (left_out is_over ys) None)
+  closes [] o k = inl k
+  closes (x ∷ []) o k = closes_by x o k (is_over x) refl
+  closes (x ∷ y ∷ ys) o k = absurd k
 
   module _ (one : (c d : ℕ) → id_of c ≡ id_of d → c ≡ d) (s t : Scene) (c : ℕ) (X Y : Side)
       (g : Changed (origin id_of) c X Y s.links t.links) (l : Y.log ≡ X.log) (r : Y.results ≡ X.results)
@@ -118,10 +118,10 @@ module _ (id_of : ℕ → List ℕ) where
     ends : (h : Incoming) → (k : HasPayment id_of h s) → (ms : List Move) → AreMade ms k.0
         → IsOfLinks (origin id_of) h t.links (after ms k.0) → (ys : List Htlc)
         → filter (is_htlc (key_of id_of h)) t.book ≡ left_out is_over ys
-        → AreEntries id_of ys (t.links.halted h.channel) (after ms k.0).note → HasPayment id_of h t
-    ends h k ms made of_links ys is entry = elim (closes ys (t.links.halted h.channel) (after ms k.0).note entry) [
+        → AreEntries id_of ys (after ms k.0).note → HasPayment id_of h t
+    ends h k ms made of_links ys is entry = elim (closes ys (after ms k.0).note entry) [
       | inl same_note ↦ by_moves id_of h t k.0 (k.1.kept, k.1.holds) ms made of_links
-          (subst (λ zs. AreEntries id_of zs (t.links.halted h.channel) (after ms k.0).note) (sym is) same_note)
+          (subst (λ zs. AreEntries id_of zs (after ms k.0).note) (sym is) same_note)
       | inr closed ↦ by_moves id_of h t k.0 (k.1.kept, k.1.holds) (ms ++ move.Close ∷ [])
           (made_both ms (move.Close ∷ []) k.0 made (closed.0, tt))
           (subst (IsOfLinks (origin id_of) h t.links) (sym (after_both ms (move.Close ∷ []) k.0)) (record {
@@ -130,9 +130,9 @@ module _ (id_of : ℕ → List ℕ) where
             outs = of_links.outs;
             halted = of_links.halted;
           }))
-          (subst (λ (q : Payment). HasEntry id_of h t.book (t.links.halted h.channel) q.note)
+          (subst (λ (q : Payment). HasEntry id_of h t.book q.note)
           (sym (after_both ms (move.Close ∷ []) k.0))
-          (subst (λ zs. AreEntries id_of zs (t.links.halted h.channel) None) (sym is) closed.1))
+          (subst (λ zs. AreEntries id_of zs None) (sym is) closed.1))
     ]
 
     decided_hold : (o : Option LogDecision) (b : Bool) → decision_by o b ≡ Decided Hold
@@ -219,28 +219,28 @@ module _ (id_of : ℕ → List ℕ) where
           ∙ ap (λ t. t && same (id_of c) x.key.channel) held_x
           ∙ is_same (id_of c) x.key.channel (sym (ap (λ (z : Key). z.channel) (key ∙ sym keys)))
 
-      marked_so : (ys : List Htlc) → ((x : Htlc) → IsIn x ys → IsIn x s.book × (x.key ≡ key_of id_of h)) → (b : Bool)
-          → AreEntries id_of ys b k.0.note → AreEntries id_of (changed_first p (put_mark m) ys) b
+      marked_so : (ys : List Htlc) → ((x : Htlc) → IsIn x ys → IsIn x s.book × (x.key ≡ key_of id_of h))
+          → AreEntries id_of ys k.0.note → AreEntries id_of (changed_first p (put_mark m) ys)
           (move.with_mark k0 k.0.note)
-      marked_so [] from b e = none k.0.note e
+      marked_so [] from e = none k.0.note e
         where
           none : (o : Option Note) → o ≡ None → move.with_mark k0 o ≡ None
           none None f = refl
           none (Some nt) f = absurd (cc)
-      marked_so (x ∷ []) from b e = cases k.0.note refl e
+      marked_so (x ∷ []) from e = cases k.0.note refl e
         where
-          cases : (o : Option Note) → k.0.note ≡ o → IsEntry id_of x b o
-              → AreEntries id_of (cond (p x) (put_mark m x ∷ []) (x ∷ [])) b (move.with_mark k0 o)
+          cases : (o : Option Note) → k.0.note ≡ o → IsEntry id_of x o
+              → AreEntries id_of (cond (p x) (put_mark m x ∷ []) (x ∷ [])) (move.with_mark k0 o)
           cases None f q = subst (λ t. AreEntries id_of (cond
               (t && (is_held_by n x.mark && same (id_of c) x.key.channel))
-              (put_mark m x ∷ []) (x ∷ [])) b None) (sym q.0) q
+              (put_mark m x ∷ []) (x ∷ [])) None) (sym q) q
           cases (Some nt) f q =
               let f0 = from x (inl refl) in
               let hold = note_holds nt f in
-              subst (λ t. AreEntries id_of (cond t (put_mark m x ∷ []) (x ∷ [])) b (Some (record nt { mark = k0 })))
+              subst (λ t. AreEntries id_of (cond t (put_mark m x ∷ []) (x ∷ [])) (Some (record nt { mark = k0 })))
               (sym (hit x f0.0 f0.1 q.0 (q.1.mark ∙ ap Some hold)))
               (q.0, record { mark = (answer_mark m answers).1; outgoing = q.1.outgoing; incoming = q.1.incoming })
-      marked_so (x ∷ y ∷ ys) from b e = absurd e
+      marked_so (x ∷ y ∷ ys) from e = absurd e
 
       itself : HavePayments id_of s → HasPayment id_of h t
       itself all =
@@ -253,12 +253,10 @@ module _ (id_of : ℕ → List ℕ) where
           (changed_first p (put_mark m) (filter q s.book))
           (ap (filter q) book ∙ left_turn is_over q (changed_first p (put_mark m) s.book)
           ∙ ap (left_out is_over) (only_picked p (put_mark m) q (λ x. refl) s.book picks))
-          (subst (λ b. AreEntries id_of (changed_first p (put_mark m) (filter q s.book)) b (move.with_mark k0 k.0.note))
-          (sym (g.halted h.channel))
           (marked_so (filter q s.book) (λ x a. (
             of_picked q x s.book a,
             sym (key_is (key_of id_of h) x.key (passes q x s.book a)),
-          )) (s.links.halted h.channel) k.1.note))
+          )) k.1.note)
 
     -- ---- of another one
 
@@ -297,7 +295,7 @@ module _ (id_of : ℕ → List ℕ) where
             (filter q s.book)
             (ap (filter q) book ∙ left_turn is_over q (changed_first p (put_mark m) s.book)
             ∙ ap (left_out is_over) (none_of_them p (put_mark m) q (λ x. refl) s.book none))
-            (subst (λ b. AreEntries id_of (filter q s.book) b k.0.note) (sym (g.halted h.channel)) k.1.note)
+            k.1.note
 
     pub resumed : HavePayments id_of s → HavePayments id_of t
     resumed k h = elim (either (same_key (key_of id_of h0) (key_of id_of h))) [
@@ -337,7 +335,7 @@ module _ (id_of : ℕ → List ℕ) where
             ∙ answer_unheld n m answers in cc)
 
         cases : (ys : List Htlc) → IsIn x (changed_first p (put_mark m) ys) → (o : Option Note)
-            → AreEntries id_of ys (s.links.halted c) o → ⊥
+            → AreEntries id_of ys o → ⊥
         cases [] a o e = absurd a
         cases (z ∷ []) a o e = one_there (p z) refl a
           where

@@ -100,7 +100,7 @@ module _ (id_of : ℕ → List ℕ) where
     pub kept : IsKept p
     pub holds : HoldIsDecided p
     pub of_links : IsOfLinks (origin id_of) h s.links p
-    pub note : HasEntry id_of h s.book (s.links.halted h.channel) p.note
+    pub note : HasEntry id_of h s.book p.note
 
   abbrev pub HasPayment : Incoming → Scene → Type 0
   HasPayment h s = (p : Payment) × IsPaymentOf h s p
@@ -109,9 +109,7 @@ module _ (id_of : ℕ → List ℕ) where
   HavePayments s = (h : Incoming) → HasPayment h s
 
   pub by_moves : (h : Incoming) (t : Scene) (p : Payment) → IsKept p × HoldIsDecided p → (ms : List Move) → AreMade ms p
-      → IsOfLinks (origin id_of) h t.links (after ms p) → HasEntry id_of h t.book (t.links.halted h.channel)
-      (after ms p).note
-      → HasPayment h t
+      → IsOfLinks (origin id_of) h t.links (after ms p) → HasEntry id_of h t.book (after ms p).note → HasPayment h t
   by_moves h t p k ms made of_links note = (
     after ms p,
     record {
@@ -122,46 +120,37 @@ module _ (id_of : ℕ → List ℕ) where
     },
   )
 
-  -- the book's part, where the book stays
-  same_note : (h : Incoming) (s t : Scene) (o : Option Note) → t.book ≡ s.book
-      → ((d : ℕ) → t.links.halted d ≡ s.links.halted d) → HasEntry id_of h s.book (s.links.halted h.channel) o
-      → HasEntry id_of h t.book (t.links.halted h.channel) o
-  same_note h s t o book halted k =
-      subst (λ b. HasEntry id_of h t.book b o) (sym (halted h.channel))
-      (subst (λ xs. HasEntry id_of h xs (s.links.halted h.channel) o) (sym book) k)
-
   -- where the links alone go on
-  pub links_go : (h : Incoming) (s t : Scene) → t.book ≡ s.book → ((d : ℕ) → t.links.halted d ≡ s.links.halted d)
-      → (k : HasPayment h s) → HasMoves (origin id_of) h t.links k.0 → HasPayment h t
-  links_go h s t book halted k g = by_moves h t k.0 (k.1.kept, k.1.holds) g.moves g.made g.of_links
-      (subst (λ o. HasEntry id_of h t.book (t.links.halted h.channel) o) (sym g.note)
-      (same_note h s t k.0.note book halted k.1.note))
+  pub links_go : (h : Incoming) (s t : Scene) → t.book ≡ s.book → (k : HasPayment h s)
+      → HasMoves (origin id_of) h t.links k.0 → HasPayment h t
+  links_go h s t book k g = by_moves h t k.0 (k.1.kept, k.1.holds) g.moves g.made g.of_links
+      (subst (λ o. HasEntry id_of h t.book o) (sym g.note) (subst (λ xs. HasEntry id_of h xs k.0.note) (sym book)
+      k.1.note))
 
   -- ---- the HTLC of the book that a command is of
 
-  entry_of : (h : Incoming) (x : Htlc) (xs : List Htlc) (b : Bool) (o : Option Note) → IsIn x xs
-      → is_htlc (key_of id_of h) x ≡ true → HasEntry id_of h xs b o → IsEntry id_of x b o
-  entry_of h x xs b o m is k = cases (filter q xs) (picked q x xs m is) k
+  entry_of : (h : Incoming) (x : Htlc) (xs : List Htlc) (o : Option Note) → IsIn x xs
+      → is_htlc (key_of id_of h) x ≡ true → HasEntry id_of h xs o → IsEntry id_of x o
+  entry_of h x xs o m is k = cases (filter q xs) (picked q x xs m is) k
     where
       q : Htlc → Bool
       q = is_htlc (key_of id_of h)
 
-      cases : (ys : List Htlc) → IsIn x ys → AreEntries id_of ys b o → IsEntry id_of x b o
+      cases : (ys : List Htlc) → IsIn x ys → AreEntries id_of ys o → IsEntry id_of x o
       cases [] m k = absurd m
-      cases (y ∷ []) (inl e) k = subst (λ z. IsEntry id_of z b o) e k
+      cases (y ∷ []) (inl e) k = subst (λ z. IsEntry id_of z o) e k
       cases (y ∷ []) (inr m) k = absurd m
       cases (y ∷ z ∷ ys) m k = absurd k
 
-  noted : (x : Htlc) (b : Bool) (o : Option Note) → x.decided ≡ true → IsEntry id_of x b o
+  noted : (x : Htlc) (o : Option Note) → x.decided ≡ true → IsEntry id_of x o
       → (n : Note) × (o ≡ Some n) × IsNoteOf id_of x n
-  noted x b None d k = absurd (let no : true ≡ false = sym d ∙ k.0 in cc)
-  noted x b (Some n) d k = (n, refl, k.1)
+  noted x None d k = absurd (let no : true ≡ false = sym d ∙ k in cc)
+  noted x (Some n) d k = (n, refl, k.1)
 
   -- of h's: its note
   pub note_of : (h : Incoming) (s : Scene) (k : HasPayment h s) (x : Htlc) → IsIn x s.book → x.decided ≡ true
       → x.key ≡ key_of id_of h → (n : Note) × (k.0.note ≡ Some n) × IsNoteOf id_of x n
-  note_of h s k x m d key = noted x (s.links.halted h.channel) k.0.note d
-      (entry_of h x s.book (s.links.halted h.channel) k.0.note m
+  note_of h s k x m d key = noted x k.0.note d (entry_of h x s.book k.0.note m
       (ap (same_key (key_of id_of h)) key ∙ is_key (key_of id_of h)) k.1.note)
 
   -- ---- a channel changes as a command of the book is taken
@@ -191,22 +180,19 @@ module _ (id_of : ℕ → List ℕ) where
               by_moves h t p ((k h).1.kept, (k h).1.holds) (move.Offer c a.id ∷ []) (asks, tt)
               (offers (origin id_of) h c X Y s.links t.links g a l r ds sound id
               (from ∙ ap (λ (z : Key). Some (z.channel, z.id)) key) p (k h).1.of_links (none_out p (k h).1.kept asks))
-              (subst (λ b. HasEntry id_of h t.book b (move.with_outgoing (Offered c a.id) p.note)) (sym
-              (g.halted h.channel))
-              (subst (λ xs. HasEntry id_of h xs (s.links.halted h.channel) (move.with_outgoing (Offered c a.id) p.note))
+              (subst (λ xs. HasEntry id_of h xs (move.with_outgoing (Offered c a.id) p.note))
               (sym (book ∙ ap (λ z. with_outgoing z (outgoing.Offered (key_at id_of c a.id)) s.book) key))
-              (outgoing_here id_of h s.book (s.links.halted h.channel) p.note (outgoing.Offered (key_at id_of c a.id))
-              (Offered c a.id) refl (k h).1.note)))
+              (outgoing_here id_of h s.book p.note (outgoing.Offered (key_at id_of c a.id))
+              (Offered c a.id) refl (k h).1.note))
 
           there : same_key x.key (key_of id_of h) ≡ false → HasPayment h t
           there isnt = by_moves h t p ((k h).1.kept, (k h).1.holds) [] tt
               (proposes (origin id_of) h c X Y s.links t.links g (update.Add a) l r ds sound none
               (λ is. outcome-none h.id X.log.own (update.Add a) refl) p (k h).1.of_links)
-              (subst (λ b. HasEntry id_of h t.book b p.note) (sym (g.halted h.channel))
-              (subst (λ xs. HasEntry id_of h xs (s.links.halted h.channel) p.note) (sym book)
-              (outgoing_there id_of h x.key isnt s.book (s.links.halted h.channel) p.note (outgoing.Offered
+              (subst (λ xs. HasEntry id_of h xs p.note) (sym book)
+              (outgoing_there id_of h x.key isnt s.book p.note (outgoing.Offered
               (key_at id_of c a.id))
-              (k h).1.note)))
+              (k h).1.note))
             where
               none : (i : ℕ) → Forwards (origin id_of h) (add_with i (update.Add a ∷ [])) → ⊥
               none i f = cases (a.id == i) f
@@ -261,19 +247,17 @@ module _ (id_of : ℕ → List ℕ) where
               (eq-eqb h.channel c at) (none (origin id_of h)) still refl
               (sym (ap (λ i. removal_of_outcome (outcome i (X.log.own ++ u ∷ [])) Proposed) id) ∙ told asks.0 asks.1) p
               (k h).1.of_links)
-              (subst (λ b. HasEntry id_of h t.book b (move.with_incoming RemovalSent p.note)) (sym (g.halted h.channel))
-              (subst (λ xs. HasEntry id_of h xs (s.links.halted h.channel) (move.with_incoming RemovalSent p.note))
+              (subst (λ xs. HasEntry id_of h xs (move.with_incoming RemovalSent p.note))
               (sym (book ∙ ap (λ z. with_incoming z incoming.RemovalSent s.book) key))
-              (back_here id_of h s.book (s.links.halted h.channel) p.note incoming.RemovalSent (k h).1.note)))
+              (back_here id_of h s.book p.note incoming.RemovalSent (k h).1.note))
 
           there : same_key x.key (key_of id_of h) ≡ false → HasPayment h t
           there isnt = by_moves h t p ((k h).1.kept, (k h).1.holds) [] tt
               (proposes (origin id_of) h c X Y s.links t.links g u l r ds sound (none (origin id_of h))
               (λ is. others h.id (other (h.id == x.key.id) refl is)) p (k h).1.of_links)
-              (subst (λ b. HasEntry id_of h t.book b p.note) (sym (g.halted h.channel))
-              (subst (λ xs. HasEntry id_of h xs (s.links.halted h.channel) p.note) (sym book)
-              (back_there id_of h x.key isnt s.book (s.links.halted h.channel) p.note incoming.RemovalSent
-              (k h).1.note)))
+              (subst (λ xs. HasEntry id_of h xs p.note) (sym book)
+              (back_there id_of h x.key isnt s.book p.note incoming.RemovalSent
+              (k h).1.note))
             where
               other : (b : Bool) → (h.id == x.key.id) ≡ b → (h.channel == c) ≡ true → (h.id == x.key.id) ≡ false
               other false e is = e
@@ -285,17 +269,20 @@ module _ (id_of : ℕ → List ℕ) where
                   let no : true ≡ false = sym (ap (same_key x.key) (sym key) ∙ is_key x.key) ∙ isnt in
                   absurd (cc)
 
-  -- ---- an end without its connection
+  -- ---- an end without its connection, whose link works still, or again
 
   module _ (one : (c d : ℕ) → id_of c ≡ id_of d → c ≡ d) (s t : Scene) (c : ℕ) (told : KeptState)
-      (g : Drops (is_of c) s.links t.links) (same_halted : (d : ℕ) → t.links.halted d ≡ s.links.halted d)
-      (awake : s.links.halted c ≡ false) (book : t.book ≡ map (htlc_kept (id_of c) told) s.book)
+      (g : Drops (is_of c) s.links t.links) (now : (d : ℕ) → t.links.halted d ≡ (not (d == c) && s.links.halted d))
+      (book : t.book ≡ map (htlc_kept (id_of c) told) s.book)
       (covered : (i : ℕ) → nat_le told.next i ≡ false → is_uncovered (course_at i (s.links.sides c)) ≡ false)
       (gone : (o : List ℕ × ℕ) (i : ℕ) → nat_le told.next i ≡ true → HasAddAt o i (t.links.sides c) → ⊥)
       (open_still : (x : Htlc) (i : ℕ) → IsIn x s.book → x.key ≡ key_at id_of c i → is_among i told.removes ≡ false
-      → removal_at i (t.links.sides c) ≡ NoRemoval) where
-    pub disconnects : HavePayments s → HavePayments t
-    disconnects k h = cases e.outgoing refl
+      → removal_at i (t.links.sides c) ≡ NoRemoval)
+      -- what the book has offered there, below the next id, is there
+      (there : (h : Incoming) (k : HasPayment h s) (n : Note) (i : ℕ) → k.0.note ≡ Some n → n.outgoing ≡ Offered c i
+      → nat_le told.next i ≡ false → Among (IsAt c i) k.0.outs) where
+    pub comes_back : HavePayments s → HavePayments t
+    comes_back k h = cases e.outgoing refl
       where
         p : Payment
         p = (k h).0
@@ -303,46 +290,43 @@ module _ (id_of : ℕ → List ℕ) where
         st : IsOfLinks (origin id_of) h s.links p
         st = (k h).1.of_links
 
-        e : Loses id_of one h c told (filter (is_htlc (key_of id_of h)) s.book) (s.links.halted h.channel) p.note
-        e = loses id_of one h c told s.book (s.links.halted h.channel) p.note (k h).1.note
+        e : Loses id_of one h c told (filter (is_htlc (key_of id_of h)) s.book) p.note
+        e = loses id_of one h c told s.book p.note (k h).1.note
 
         kept_list : List Out
         kept_list = kept_outs (is_of c) p.outs
 
         -- the book, in the end
         note : (b : Bool) → e.incoming ≡ b → (w : Bool) → e.outgoing ≡ w
-            → HasEntry id_of h t.book (t.links.halted h.channel) (lost_back id_of one b
-            (lost_outgoing id_of one w p.note))
+            → HasEntry id_of h t.book (lost_back id_of one b (lost_outgoing id_of one w p.note))
         note b is w so =
-            subst (λ z. HasEntry id_of h t.book z (lost_back id_of one b (lost_outgoing id_of one w p.note)))
-            (sym (same_halted h.channel))
-            (subst (λ xs. AreEntries id_of (filter (is_htlc (key_of id_of h)) xs) (s.links.halted h.channel)
+            subst (λ xs. AreEntries id_of (filter (is_htlc (key_of id_of h)) xs)
             (lost_back id_of one b (lost_outgoing id_of one w p.note))) (sym book)
-            (subst (λ ys. AreEntries id_of ys (s.links.halted h.channel)
-            (lost_back id_of one b (lost_outgoing id_of one w p.note)))
+            (subst (λ ys. AreEntries id_of ys (lost_back id_of one b (lost_outgoing id_of one w p.note)))
             (sym (kept_turn id_of one h c told s.book))
             (subst (λ z. AreEntries id_of (map (htlc_kept (id_of c) told) (filter (is_htlc (key_of id_of h)) s.book))
-            (s.links.halted h.channel) (lost_back id_of one z (lost_outgoing id_of one w p.note))) is
+            (lost_back id_of one z (lost_outgoing id_of one w p.note))) is
             (subst (λ z. AreEntries id_of (map (htlc_kept (id_of c) told) (filter (is_htlc (key_of id_of h)) s.book))
-            (s.links.halted h.channel) (lost_back id_of one e.incoming
-            (lost_outgoing id_of one z p.note))) so e.there))))
+            (lost_back id_of one e.incoming (lost_outgoing id_of one z p.note))) so e.there)))
 
         -- what is left has the incoming HTLC's channel or not
-        onward : (v : Move) → MayMove v p → (moved v p).decision ≡ p.decision → (moved v p).removal ≡ p.removal
+        onward : (v : Move) → MayMove v p → Stays c (moved v p).note (moved v p).outs
+            → (moved v p).decision ≡ p.decision → (moved v p).removal ≡ p.removal
             → (moved v p).outs ≡ kept_list → (moved v p).halted ≡ p.halted → (w : Bool) → e.outgoing ≡ w
             → (moved v p).note ≡ lost_outgoing id_of one w p.note → HasPayment h t
-        onward v may same_decision same_removal same_outs same_halts w so note_now = elim (either (h.channel == c)) [
-          | inl is ↦ here is e.incoming refl
-          | inr isnt ↦ by_moves h t p ((k h).1.kept, (k h).1.holds) (v ∷ []) (may, tt)
-              (let f = falls_elsewhere (origin id_of) h s.links t.links c g same_halted isnt p st in record {
-                decision = same_decision ∙ f.decision;
-                removal = same_removal ∙ f.removal;
-                outs = subst (AreOuts (origin id_of) h t.links) (sym same_outs) f.outs;
-                halted = λ d. ap (λ z. z d) same_halts ∙ f.halted d;
-              })
-              (subst (λ o. HasEntry id_of h t.book (t.links.halted h.channel) o) (sym note_now)
-              (note false (not_back isnt e.incoming refl) w so))
-        ]
+        onward v may stay same_decision same_removal same_outs same_halts w so note_now = elim (either
+            (h.channel == c)) [
+              | inl is ↦ here is e.incoming refl
+              | inr isnt ↦ by_moves h t p ((k h).1.kept, (k h).1.holds) (v ∷ move.Reload c ∷ []) (may, (stay, tt))
+                  (let f = falls_elsewhere (origin id_of) h s.links t.links c g now isnt p st in record {
+                    decision = same_decision ∙ f.decision;
+                    removal = same_removal ∙ f.removal;
+                    outs = subst (AreOuts (origin id_of) h t.links) (sym same_outs) f.outs;
+                    halted = λ d. ap (λ z. not (d == c) && z d) same_halts ∙ f.halted d;
+                  })
+                  (subst (λ o. HasEntry id_of h t.book o) (sym note_now)
+                  (note false (not_back isnt e.incoming refl) w so))
+            ]
           where
             not_back : (h.channel == c) ≡ false → (b : Bool) → e.incoming ≡ b → e.incoming ≡ false
             not_back isnt false is = is
@@ -350,33 +334,32 @@ module _ (id_of : ℕ → List ℕ) where
                 ∙ isnt in cc)
 
             here : (h.channel == c) ≡ true → (b : Bool) → e.incoming ≡ b → HasPayment h t
-            here is false so_back = by_moves h t p ((k h).1.kept, (k h).1.holds) (v ∷ move.DropRemoval ∷ [])
-                (may, (tt, tt))
-                (let f = falls_here (origin id_of) h s.links t.links c g same_halted is p st in record {
+            here is false so_back =
+                by_moves h t p ((k h).1.kept, (k h).1.holds) (v ∷ move.Reload c ∷ move.DropRemoval ∷ [])
+                (may, (stay, (tt, tt)))
+                (let f = falls_here (origin id_of) h s.links t.links c g now is p st in record {
                   decision = same_decision ∙ f.decision;
                   removal = ap kept_removal same_removal ∙ f.removal;
                   outs = subst (AreOuts (origin id_of) h t.links) (sym same_outs) f.outs;
-                  halted = λ d. ap (λ z. z d) same_halts ∙ f.halted d;
+                  halted = λ d. ap (λ z. not (d == c) && z d) same_halts ∙ f.halted d;
                 })
-                (subst (λ o. HasEntry id_of h t.book (t.links.halted h.channel) o) (sym note_now)
-                (note false so_back w so))
+                (subst (λ o. HasEntry id_of h t.book o) (sym note_now) (note false so_back w so))
             here is true so_back =
                 let there = e.is_there so_back in
-                let f = falls_here (origin id_of) h s.links t.links c g same_halted is p st in
+                let f = falls_here (origin id_of) h s.links t.links c g now is p st in
                 let none : kept_removal (moved v p).removal ≡ NoRemoval = ap kept_removal same_removal ∙ f.removal
                 ∙ ap (λ n. removal_at h.id (t.links.sides n)) (eqb-true h.channel c is)
                 ∙ open_still there.0 h.id (of_picked (is_htlc (key_of id_of h)) there.0 s.book there.1)
                 (there.2 ∙ ap (λ n. key_at id_of n h.id) (e.is_open so_back).0) (e.is_open so_back).1 in
-                by_moves h t p ((k h).1.kept, (k h).1.holds) (v ∷ move.DropRemoval ∷ move.Reopen ∷ [])
-                (may, (tt, (none, tt)))
+                by_moves h t p ((k h).1.kept, (k h).1.holds)
+                (v ∷ move.Reload c ∷ move.DropRemoval ∷ move.Reopen ∷ []) (may, (stay, (tt, (none, tt))))
                 (record {
                   decision = same_decision ∙ f.decision;
                   removal = ap kept_removal same_removal ∙ f.removal;
                   outs = subst (AreOuts (origin id_of) h t.links) (sym same_outs) f.outs;
-                  halted = λ d. ap (λ z. z d) same_halts ∙ f.halted d;
+                  halted = λ d. ap (λ z. not (d == c) && z d) same_halts ∙ f.halted d;
                 })
-                (subst (λ o. HasEntry id_of h t.book (t.links.halted h.channel)
-                (move.with_incoming Open o)) (sym note_now)
+                (subst (λ o. HasEntry id_of h t.book (move.with_incoming Open o)) (sym note_now)
                 (note true so_back w so))
 
         -- it is no longer there
@@ -406,37 +389,50 @@ module _ (id_of : ℕ → List ℕ) where
             here_covered = ap is_uncovered o.1 ∙ ap (λ n. is_uncovered (course_at n (s.links.sides q.channel))) at.1
                 ∙ ap (λ n. is_uncovered (course_at i (s.links.sides n))) at.0 ∙ covered i near
 
+        none_stays : (o : Option Note) → Stays c (move.with_outgoing Absent o) kept_list
+        none_stays None = tt
+        none_stays (Some n) = tt
+
         cases : (w : Bool) → e.outgoing ≡ w → HasPayment h t
         cases true so =
             let f = e.is_lost so in
-            onward (move.PutBack c f.0) (f.1.0, lost_all f.0 f.1.1 kept_list after_outs) refl refl refl refl true so
-            refl
-        cases false so = onward (move.Drop c) (stays p.note refl) refl refl refl refl false so refl
+            onward (move.PutBack c f.0) (f.1.0, lost_all f.0 f.1.1 kept_list after_outs) (none_stays p.note)
+            refl refl refl refl true so refl
+        cases false so = onward (move.Drop c) (stays p.note refl) (stays p.note refl) refl refl refl refl false so refl
           where
-            awake_p : p.halted c ≡ false
-            awake_p = st.halted c ∙ awake
-
-            by_there : (n : Note) → p.note ≡ Some n → (d j : ℕ) → n.outgoing ≡ Offered d j → d ≡ c
-                → (p.halted d ≡ true) ⊎ Among (IsAt d j) p.outs → Among (IsAt d j) kept_list
-            by_there n is d j to at (inl halt) =
-                absurd (let no : true ≡ false = sym halt ∙ ap p.halted at ∙ awake_p in cc)
-            by_there n is d j to at (inr a) = subst (λ z. Among (IsAt z j) kept_list) (sym at)
-                (stay_all j (e.is_kept so n j is (to ∙ ap (λ z. Offered z j) at)) p.outs st.outs
-                (subst (λ z. Among (IsAt z j) p.outs) at a))
-
-            there : (n : Note) → p.note ≡ Some n → (w : OutgoingLeg) → n.outgoing ≡ w → IsOffered w p.outs p.halted
-            there n is w to = subst (λ z. IsOffered z p.outs p.halted) to
-                (subst (λ o. ForNote (λ f. IsOffered f.outgoing p.outs p.halted) o) is (k h).1.kept.offered)
-
             stays_by : (n : Note) → p.note ≡ Some n → (w : OutgoingLeg) → n.outgoing ≡ w → OutgoingStays c w kept_list
             stays_by n is Absent to = tt
             stays_by n is Refused to = tt
             stays_by n is (Resolved d j m) to = tt
-            stays_by n is (Offered d j) to = λ at. by_there n is d j to at (there n is (Offered d j) to)
+            stays_by n is (Offered d j) to = λ at.
+                let to_c : n.outgoing ≡ Offered c j = to ∙ ap (λ z. Offered z j) at in
+                let near = e.is_kept so n j is to_c in
+                subst (λ z. Among (IsAt z j) kept_list) (sym at)
+                (stay_all j near p.outs st.outs (there h (k h) n j is to_c near))
 
             stays : (o : Option Note) → p.note ≡ o → Stays c o kept_list
             stays None is = tt
             stays (Some n) is = stays_by n is n.outgoing refl
+
+  -- what the book has offered in a channel whose link works is there
+  pub awake_there : (c : ℕ) (s : Scene) → s.links.halted c ≡ false → (h : Incoming) (k : HasPayment h s) (n : Note)
+      (i : ℕ) → k.0.note ≡ Some n → n.outgoing ≡ Offered c i → Among (IsAt c i) k.0.outs
+  awake_there c s awake h k n i is to = by_offered
+      (subst (λ w. IsOffered w k.0.outs k.0.halted) to
+      (subst (λ o. ForNote (λ f. IsOffered f.outgoing k.0.outs k.0.halted) o) is k.1.kept.offered))
+    where
+      by_offered : (k.0.halted c ≡ true) ⊎ Among (IsAt c i) k.0.outs → Among (IsAt c i) k.0.outs
+      by_offered (inl halt) = absurd (let no : true ≡ false = sym halt ∙ k.1.of_links.halted c ∙ awake in cc)
+      by_offered (inr a) = a
+
+  -- its link worked, and works
+  pub works_still : (c : ℕ) (s t : Scene) → s.links.halted c ≡ false
+      → ((d : ℕ) → t.links.halted d ≡ s.links.halted d) → (d : ℕ)
+      → t.links.halted d ≡ (not (d == c) && s.links.halted d)
+  works_still c s t awake same_halted d = same_halted d ∙ elim (either (d == c)) [
+    | inl is ↦ ap s.links.halted (eqb-true d c is) ∙ awake ∙ sym (ap (λ b. not b && s.links.halted d) is)
+    | inr isnt ↦ sym (ap (λ b. not b && s.links.halted d) isnt)
+  ]
 
   -- ---- the node restarts
 
@@ -449,9 +445,8 @@ module _ (id_of : ℕ → List ℕ) where
       let st = restarts (origin id_of) h s.links t.links g none still p (k h).1.of_links in
       let kp = kept_after (move.Restart still ∷ []) p (tt, tt) (k h).1.kept in
       by_moves h t p ((k h).1.kept, (k h).1.holds) (move.Restart still ∷ []) (tt, tt) st
-      (subst (λ b. HasEntry id_of h t.book b (moved (move.Restart still) p).note) (sym (none h.channel))
-      (subst (λ xs. HasEntry id_of h xs false (moved (move.Restart still) p).note) (sym book)
-      (read_so id_of one h t.links es incoming (moved (move.Restart still) p) kp st)))
+      (subst (λ xs. HasEntry id_of h xs (moved (move.Restart still) p).note) (sym book)
+      (read_so id_of one h t.links es incoming (moved (move.Restart still) p) kp st))
 
   -- ---- the book hears what came to be held
 
@@ -477,7 +472,7 @@ module _ (id_of : ℕ → List ℕ) where
             kept = k.1.kept;
             holds = k.1.holds;
             of_links = k.1.of_links;
-            note = settled_there id_of h j isnt xs (l.halted h.channel) k.0.note k.1.note;
+            note = settled_there id_of h j isnt xs k.0.note k.1.note;
           },
         )
       ])
@@ -494,8 +489,7 @@ module _ (id_of : ℕ → List ℕ) where
             halted = k.1.of_links.halted;
           })
           (subst (λ z. HasEntry id_of h (left_out (is_finished z) (with_incoming z incoming.Settled xs))
-          (l.halted h.channel)
-          (move.settled k.0.note)) (sym key) (settled_here id_of h xs (l.halted h.channel) k.0.note k.1.note))
+          (move.settled k.0.note)) (sym key) (settled_here id_of h xs k.0.note k.1.note))
 
   -- what became of these HTLCs that went out there
   abbrev pub after_over : ℕ → List (ℕ × How) → List Htlc → List Htlc
@@ -510,7 +504,7 @@ module _ (id_of : ℕ → List ℕ) where
   tells one h l c [] xs awake e k = k
   tells one h l c (w ∷ ws) xs awake e k =
       tells one h l c ws now awake e.1
-      (elim (over_so_far id_of one h c w.0 w.1 xs (l.halted h.channel) k.0.note k.1.note) [
+      (elim (over_so_far id_of one h c w.0 w.1 xs k.0.note k.1.note) [
         | inl as_was ↦ (k.0, record { kept = k.1.kept; holds = k.1.holds; of_links = k.1.of_links; note = as_was })
         | inr new ↦ by_moves h (scene l now) k.0 (k.1.kept, k.1.holds) (move.Tell c w.0 (kind_of w.1) ∷ [])
             ((new.0, k.1.of_links.halted c ∙ awake, ended k.0.outs k.1.of_links.outs), tt)

@@ -1,12 +1,13 @@
 -- What may happen to a node between one moment and the next: to one of its channels, to its book, or to all of it.
-use Rattle.std.specs.Prelude.{◌≡◌, ℕ, List, [], ◌∷◌, take, map, Bool, true, false, ◌==◌, ◌||◌, Option, Some, None}
-use Rattle.std.specs.Prelude.{option_map, Result, Ok, if◌then◌else◌}
+use Rattle.std.specs.Prelude.{◌≡◌, ℕ, List, [], ◌∷◌, take, map, Bool, true, false, not, ◌==◌, ◌&&◌, ◌||◌, Option, Some}
+use Rattle.std.specs.Prelude.{None, option_map, Result, Ok, if◌then◌else◌}
 use Rattle.ln_refusals.specs.declared.refusal.Refusal.{Refusal}
+use Rattle.std.specs.List.{find}
 use Rattle.ln_keys.specs.Signer.{Signer}
 use Rattle.ln_log.specs.declared.mark.Mark.{Mark}
 use Rattle.ln_log.specs.declared.mark.Mark.TheVariants as mark
 use Rattle.ln_log.specs.declared.outcome.Outcome.{Outcome}
-use Rattle.ln_log.specs.declared.outcome.Outcome.TheVariants.{Fulfilled, Failed}
+use Rattle.ln_log.specs.declared.outcome.Outcome.TheVariants.{Live, Fulfilled, Failed}
 use Rattle.ln_log.specs.Updates.{outcome, next_id}
 use Rattle.ln_hooks.specs.declared.event.How.{How}
 use Rattle.ln_hooks.specs.declared.event.How.TheVariants as how
@@ -24,7 +25,8 @@ use Rattle.ln_book_tables.specs.declared.entry.Out.{Out}
 use Rattle.ln_book_tables.specs.declared.entry.Out.TheVariants as out
 use Rattle.ln_book_tables.specs.declared.entry.Queued.{Queued}
 use Rattle.ln_book_tables.specs.declared.entry.KeptState.{KeptState}
-use Rattle.ln_book_tables.specs.Replay.{Table, no_table, with_htlcs, is_told, htlc_of, joined, taken_by, refused_by}
+use Rattle.ln_book_tables.specs.Replay.{Table, no_table, with_htlcs, is_htlc, is_told, htlc_of, joined, taken_by}
+use Rattle.ln_book_tables.specs.Replay.{refused_by}
 use Rattle.ln_book_tables.specs.Replay.{with_mark}
 use Rattle.ln_book_tables.specs.Replay.{with_resolved, with_removed, htlc_kept}
 use Rattle.ln_book.specs.Kept.{kept_ids, next_own_id, has_own_removal}
@@ -40,8 +42,9 @@ use Rattle.ln_payment_circuits.specs.Shift.{Shift, IsPlain}
 
 -- ---- to its channels
 
--- the end of this channel has become this one, and no other one has changed
+-- the end of this channel, whose link works, has become this one, and no other one has changed
 pub record Goes (c : ℕ) (was : Option End) (is : End) (s t : Snapshot) : Type 0 where
+  pub awake : s.halted c ≡ false
   pub before : s.ends c ≡ was
   pub now : t.ends c ≡ Some is
   pub others : (d : ℕ) → (d == c) ≡ false → t.ends d ≡ s.ends d
@@ -77,12 +80,21 @@ pub record Asks (id_of : ℕ → List ℕ) (c : ℕ) (s : Services) (book : List
 abbrev pub obeyed : Signer → Command → End → Result Turn Refusal
 obeyed keys y e = if is_of_records y then note_row y e else command_row keys y e
 
--- a decision on the HTLC of which the channel's first undecided event tells; the book has none of that event
+-- a decision on the HTLC of which the channel's first undecided event tells; the book has no other one of that event
 pub record IsOnFirst (channel : List ℕ) (e : End) (book : List Htlc) (d : Decided) (o : Offer) : Type 0 where
   pub channel_is : d.channel ≡ channel
   pub first : first_htlc e.dance.log e.ledger.undecided ≡ Some o.id
   pub does_something : d.mark ≡ mark.None → ⊥
-  pub none_of_it : NonePasses (is_told channel d.event) book
+  pub no_other : NonePasses (λ x. is_told channel d.event x && not (is_htlc (htlc_of d o).key x)) book
+
+-- an end has decided an HTLC so, of which the book hasn't heard yet, and hasn't removed it
+pub record IsUnheard (channel : List ℕ) (e : End) (book : List Htlc) (d : Decided) (o : Offer) : Type 0 where
+  pub channel_is : d.channel ≡ channel
+  pub decided : find (λ z. z.id == o.id) e.ledger.decisions ≡ Some (record { id = o.id; mark = d.mark })
+  pub does_something : d.mark ≡ mark.None → ⊥
+  pub not_removed : outcome o.id e.dance.log.own ≡ Live
+  pub waits : IsIn (htlc_of d o) book
+  pub no_other : NonePasses (λ x. is_told channel d.event x && not (is_htlc (htlc_of d o).key x)) book
 
 -- the book is told what an end has kept
 pub record Tells (channel : List ℕ) (e : End) (book : List Htlc) (told : KeptState) : Type 0 where
@@ -138,6 +150,20 @@ pub data Happens (id_of : ℕ → List ℕ) (s t : Snapshot) : Type 0 where
   HaltsDeciding : (c : ℕ) (e : End) (d : Decided) (o : Offer) → s.ends c ≡ Some e → IsOnFirst (id_of c) e s.book d o
       → Loses (is_of c) s t → ((b : ℕ) → t.halted b ≡ ((b == c) || s.halted b)) → t.book ≡ joined (htlc_of d o) s.book
       → Happens id_of s t
+  -- or the book decides by itself, and the channel takes that later, as a link does that halted before it had
+  EntersDecision : (c : ℕ) (e : End) (d : Decided) (o : Offer) → s.ends c ≡ Some e → IsOnFirst (id_of c) e s.book d o
+      → AreSame s t → t.book ≡ joined (htlc_of d o) s.book → Happens id_of s t
+  TakesDecision : (c : ℕ) (e : End) (d : Decided) (o : Offer) (turn : Turn) (queue : List Queued)
+      → IsOnFirst (id_of c) e s.book d o → IsIn (htlc_of d o) s.book
+      → note_row (command.Decide d.event d.mark) e ≡ Ok turn → Goes c (Some e) (based turn.end) s t
+      → t.book ≡ taken_by (id_of c) 0 (out.Deciding d.event) queue s.book → Happens id_of s t
+  -- it takes that decision, and the book hears of it later, as of a save that failed and left the new record
+  TakesUnheard : (c : ℕ) (e : End) (d : Decided) (o : Offer) (turn : Turn) → IsOnFirst (id_of c) e s.book d o
+      → IsIn (htlc_of d o) s.book → note_row (command.Decide d.event d.mark) e ≡ Ok turn
+      → Goes c (Some e) (based turn.end) s t → t.book ≡ s.book → Happens id_of s t
+  HearsDecision : (c : ℕ) (e : End) (d : Decided) (o : Offer) (queue : List Queued) → s.ends c ≡ Some e
+      → IsUnheard (id_of c) e s.book d o → AreSame s t
+      → t.book ≡ taken_by (id_of c) 0 (out.Deciding d.event) queue s.book → Happens id_of s t
   -- an event is decided about which nothing is to be done, as that of an own add, of what became of one, or of a close
   DecidesNothing : (c : ℕ) (e : End) (event : ℕ) (turn : Turn)
       → note_row (command.Decide event mark.None) e ≡ Ok turn → Goes c (Some e) (based turn.end) s t → t.book ≡ s.book
@@ -152,6 +178,11 @@ pub data Happens (id_of : ℕ → List ℕ) (s t : Snapshot) : Type 0 where
   Disconnects : (c : ℕ) (e : End) (told : KeptState) → s.ends c ≡ Some e → s.halted c ≡ false
       → Tells (id_of c) (end_dropped e) s.book told → Loses (is_of c) s t → ((d : ℕ) → t.halted d ≡ s.halted d)
       → t.book ≡ map (htlc_kept (id_of c) told) s.book → Happens id_of s t
+  -- a link that has halted comes back from its record, without its connection, and the book is told what it has kept
+  Reloads : (c : ℕ) (e : End) (told : KeptState) → s.ends c ≡ Some e → s.halted c ≡ true
+      → Tells (id_of c) (end_dropped e) s.book told → Loses (is_of c) s t
+      → ((d : ℕ) → t.halted d ≡ (not (d == c) && s.halted d)) → t.book ≡ map (htlc_kept (id_of c) told) s.book
+      → Happens id_of s t
   -- the node stops and comes back: each link has lost its connection, and the book is read off the ends
   Restarts : (es : List (ℕ × End)) → Loses everywhere s t → ((d : ℕ) → t.halted d ≡ false) → AreEnds t es
       → t.book ≡ rebuilt_htlcs (snapshots es) → Happens id_of s t

@@ -15,7 +15,7 @@ use Rattle.ln_book.specs.Rebuild.{ChannelSnapshot, channel_snapshot_of}
 
 pub record Snapshot : Type 0 where
   pub ends : ℕ → Option End  -- as they are saved, by the numbers of their channels
-  pub halted : ℕ → Bool  -- links that want memory, and answer nothing until the node restarts
+  pub halted : ℕ → Bool  -- links that want memory, and answer nothing until they are loaded or the node restarts
   pub book : List Htlc
 
 -- no channel is open yet

@@ -6,4 +6,4 @@
 
 mod laws;
 
-pub use laws::{one_payment_out, what_is_covered_stays};
+pub use laws::{one_payment_out, what_is_covered_stays, what_was_removed_while_held_goes_nowhere};

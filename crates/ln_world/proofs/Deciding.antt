@@ -65,7 +65,7 @@ use Rattle.ln_payment_circuits.proofs.Entries.{joins_there}
 use Rattle.ln_payment_circuits.proofs.Scenes.{HavePayments, by_moves}
 use Rattle.ln_payment_circuits.proofs.Resumed.{HoldAlike}
 use Rattle.ln_payment_circuits.proofs.Agrees.{agrees_decided}
-use Rattle.ln_payment_circuits.proofs.Answers.{none_left, decided, last_one}
+use Rattle.ln_payment_circuits.proofs.Answers.{none_left, others_of, decided, last_one}
 use Rattle.ln_payment_circuits.proofs.Halts.{no_note, halts_undecided}
 use Rattle.ln_payment_circuits.proofs.Moments.{first_kept}
 use Rattle.ln_world.specs.Circuit.{has_halted}
@@ -151,15 +151,14 @@ joined_among x xs y m = cases (list_any (is_decided x.key) xs) m
 
 -- ---- what isn't decided goes: no payment has a part in it
 
-gone_entry : (u : Htlc → Bool) → ((y : Htlc) → u y ≡ true → y.decided ≡ false)
-    → (ys : List Htlc) (b : Bool) (o : Option Note)
-    → AreEntries channel_id_of ys b o → AreEntries channel_id_of (left_out u ys) b o
-gone_entry u undecided [] b o k = k
-gone_entry u undecided (y ∷ z ∷ ys) b o k = absurd k
-gone_entry u undecided (y ∷ []) b o k = cases (u y) refl o k
+gone_entry : (u : Htlc → Bool) → ((y : Htlc) → u y ≡ true → y.decided ≡ false) → (ys : List Htlc) (o : Option Note)
+    → AreEntries channel_id_of ys o → AreEntries channel_id_of (left_out u ys) o
+gone_entry u undecided [] o k = k
+gone_entry u undecided (y ∷ z ∷ ys) o k = absurd k
+gone_entry u undecided (y ∷ []) o k = cases (u y) refl o k
   where
-    cases : (t : Bool) → u y ≡ t → (o : Option Note) → IsEntry channel_id_of y b o
-        → AreEntries channel_id_of (cond (not t) (y ∷ []) []) b o
+    cases : (t : Bool) → u y ≡ t → (o : Option Note) → IsEntry channel_id_of y o
+        → AreEntries channel_id_of (cond (not t) (y ∷ []) []) o
     cases false is o k = k
     cases true is None k = refl
     cases true is (Some n) k = absurd (let no : true ≡ false = sym k.0 ∙ undecided y is in cc)
@@ -168,16 +167,15 @@ module _ (u : Htlc → Bool) (undecided : (y : Htlc) → u y ≡ true → y.deci
     (l : Links)
     (hs : List Htlc) where
   gone_here : (q : Incoming) (o : Option Note) → x.key ≡ key_of channel_id_of q
-      → HasEntry channel_id_of q hs (l.halted q.channel) o
-      → AreEntries channel_id_of (left_out u (filter (is_htlc (key_of channel_id_of q)) (joined x hs)))
-      (l.halted q.channel) o
+      → HasEntry channel_id_of q hs o
+      → AreEntries channel_id_of (left_out u (filter (is_htlc (key_of channel_id_of q)) (joined x hs))) o
   gone_here q o key k = cases (list_any (is_decided x.key) hs) refl
     where
       f : Htlc → Bool
       f = is_htlc (key_of channel_id_of q)
 
       none_noted : list_any (is_decided x.key) hs ≡ false → (ys : List Htlc) → filter f hs ≡ ys
-          → AreEntries channel_id_of ys (l.halted q.channel) o → o ≡ None
+          → AreEntries channel_id_of ys o → o ≡ None
       none_noted none [] is e = e
       none_noted none (y ∷ z ∷ ys) is e = absurd e
       none_noted none (y ∷ []) is e = by_note o e
@@ -185,7 +183,7 @@ module _ (u : Htlc → Bool) (undecided : (y : Htlc) → u y ≡ true → y.deci
           there : IsIn y (filter f hs)
           there = subst (IsIn y) (sym is) (inl refl)
 
-          by_note : (p : Option Note) → IsEntry channel_id_of y (l.halted q.channel) p → p ≡ None
+          by_note : (p : Option Note) → IsEntry channel_id_of y p → p ≡ None
           by_note None g = refl
           by_note (Some n) g = absurd (
               let key_y : is_htlc x.key y ≡ true = ap (λ j. same_key j y.key) key ∙ passes f y hs there in
@@ -194,26 +192,24 @@ module _ (u : Htlc → Bool) (undecided : (y : Htlc) → u y ≡ true → y.deci
               sym (any_true (is_decided x.key) hs y (of_picked f y hs there) decided_y) ∙ none in cc)
 
       cases : (b : Bool) → list_any (is_decided x.key) hs ≡ b
-          → AreEntries channel_id_of (left_out u (filter f (cond b hs (left_out (is_htlc x.key) hs ++ x ∷ []))))
-          (l.halted q.channel) o
-      cases true is = gone_entry u undecided (filter f hs) (l.halted q.channel) o k
-      cases false is = subst (λ ys. AreEntries channel_id_of (left_out u ys) (l.halted q.channel) o)
+          → AreEntries channel_id_of (left_out u (filter f (cond b hs (left_out (is_htlc x.key) hs ++ x ∷ [])))) o
+      cases true is = gone_entry u undecided (filter f hs) o k
+      cases false is = subst (λ ys. AreEntries channel_id_of (left_out u ys) o)
           (sym (ap (λ j. filter f (left_out (is_htlc j) hs ++ x ∷ [])) key ∙ joins_here channel_id_of one_id q x hs
           key))
-          (subst (λ b. AreEntries channel_id_of (cond (not b) (x ∷ []) []) (l.halted q.channel) o) (sym hit)
+          (subst (λ b. AreEntries channel_id_of (cond (not b) (x ∷ []) []) o) (sym hit)
           (none_noted is (filter f hs) refl k))
 
   pub gone_joined : HavePayments channel_id_of (record { links = l; book = hs })
       → HavePayments channel_id_of (record { links = l; book = left_out u (joined x hs) })
   gone_joined k q = by_moves channel_id_of q (record { links = l; book = left_out u (joined x hs) }) (k q).0
       ((k q).1.kept, (k q).1.holds) [] tt (k q).1.of_links
-      (subst (λ ys. AreEntries channel_id_of ys (l.halted q.channel) (k q).0.note)
+      (subst (λ ys. AreEntries channel_id_of ys (k q).0.note)
       (sym (left_turn u (is_htlc (key_of channel_id_of q)) (joined x hs)))
       (elim (either (same_key x.key (key_of channel_id_of q))) [
         | inl is ↦ gone_here q (k q).0.note (key_is x.key (key_of channel_id_of q) is) (k q).1.note
         | inr isnt ↦ gone_entry u undecided (filter (is_htlc (key_of channel_id_of q)) (joined x hs))
-            (l.halted q.channel)
-            (k q).0.note (joins_there channel_id_of one_id q x hs (l.halted q.channel) (k q).0.note isnt (k q).1.note)
+            (k q).0.note (joins_there channel_id_of one_id q x hs (k q).0.note isnt (k q).1.note)
       ]))
 
 pub gone_paid : (u : Htlc → Bool) → ((y : Htlc) → u y ≡ true → y.decided ≡ false) → (l : Links) (hs : List Htlc)
@@ -221,10 +217,9 @@ pub gone_paid : (u : Htlc → Bool) → ((y : Htlc) → u y ≡ true → y.decid
     → HavePayments channel_id_of (record { links = l; book = left_out u hs })
 gone_paid u undecided l hs k q = by_moves channel_id_of q (record { links = l; book = left_out u hs }) (k q).0
     ((k q).1.kept, (k q).1.holds) [] tt (k q).1.of_links
-    (subst (λ ys. AreEntries channel_id_of ys (l.halted q.channel) (k q).0.note)
+    (subst (λ ys. AreEntries channel_id_of ys (k q).0.note)
     (sym (left_turn u (is_htlc (key_of channel_id_of q)) hs))
-    (gone_entry u undecided (filter (is_htlc (key_of channel_id_of q)) hs) (l.halted q.channel) (k q).0.note
-    (k q).1.note))
+    (gone_entry u undecided (filter (is_htlc (key_of channel_id_of q)) hs) (k q).0.note (k q).1.note))
 
 -- ---- the step
 
@@ -714,16 +709,18 @@ module _ {K : Type 0} (k : Ghosts K) (e : End) (v : Verdict) (w : World K) (h : 
                   (read_side X)
                   (read_side f) to_mid same_log dd m0.0 x u same_results decisions m0.1 undecided.0 undecided.1 refl
                   refl refl refl
-                  (hit o) (none_told dec.few) refl h.well.paid
+                  (hit o)
+                  (others_of u (is_htlc (key_at channel_id_of e.channel o.id)) t.htlcs (none_told dec.few)) refl
+                  h.well.paid
 
-              had : HasEntry channel_id_of h0 t.htlcs ((links_of n cs).halted e.channel) None
-              had = subst (λ z. HasEntry channel_id_of h0 t.htlcs ((links_of n cs).halted e.channel) z)
+              had : HasEntry channel_id_of h0 t.htlcs None
+              had = subst (λ z. HasEntry channel_id_of h0 t.htlcs z)
                   (no_note (h.well.paid h0).0 (h.well.paid h0).1.kept
                   ((h.well.paid h0).1.of_links.decision ∙ still_undecided o is_offer)) (h.well.paid h0).1.note
 
               shape : hs ≡ left_out (is_htlc (key_at channel_id_of e.channel o.id)) t.htlcs ++ decide x ∷ []
               shape = ap (changed_first u decide)
-                  (joins_so channel_id_of one_id h0 x t.htlcs ((links_of n cs).halted e.channel) refl had)
+                  (joins_so channel_id_of one_id h0 x t.htlcs refl had)
                   ∙ last_one u decide (left_out (is_htlc (key_at channel_id_of e.channel o.id)) t.htlcs) x
                   (none_left u (is_htlc (key_at channel_id_of e.channel o.id)) t.htlcs (none_told dec.few)) (hit o)
 

@@ -127,7 +127,7 @@ module _ (at : ℕ) (x f : ChannelEnd) (s t : Scene)
     }
 
     pub plain_paid : HavePayments channel_id_of s → HavePayments channel_id_of t
-    plain_paid k h = links_go channel_id_of h s t book g.halted (k h)
+    plain_paid k h = links_go channel_id_of h s t book (k h)
         (goes_then (origin channel_id_of) h (between at (read_side f) s.links) t.links (k h).0
         (plain_shift (origin channel_id_of) h at x f s.links (between at (read_side f) s.links) to_between fit shift
         none
@@ -162,7 +162,7 @@ module _ (at : ℕ) (x f : ChannelEnd) (s t : Links)
       → HavePayments channel_id_of (record { links = between at (read_side f) s; book = hs })
       → HavePayments channel_id_of (record { links = t; book = hs })
   saved_paid le hs k h = links_go channel_id_of h (record { links = between at (read_side f) s; book = hs })
-      (record { links = t; book = hs }) refl is_saved.halted (k h)
+      (record { links = t; book = hs }) refl (k h)
       (base_shift (origin channel_id_of) h at f (between at (read_side f) s) t is_saved le (k h).0 (k h).1.of_links)
 
 -- where its decisions are among those that there were

@@ -37,7 +37,7 @@ use Rattle.ln_payment_circuits.proofs.Losses.{Drops}
 use Rattle.ln_payment_circuits.proofs.Kept.{none_kept}
 use Rattle.ln_payment_circuits.proofs.Shifts.{side_of as read_side}
 use Rattle.ln_payment_circuits.proofs.Entries.{is_same}
-use Rattle.ln_payment_circuits.proofs.Scenes.{Scene, HavePayments, disconnects}
+use Rattle.ln_payment_circuits.proofs.Scenes.{Scene, HavePayments, comes_back, awake_there, works_still}
 use Rattle.ln_payment_circuits.proofs.Resumed.{HoldAlike}
 use Rattle.ln_payment_circuits.proofs.Agrees.{agrees_fewer}
 use Rattle.ln_world.proofs.Scene.{link_in, links_of, scene_of, linked, now, no_node, either}
@@ -159,8 +159,8 @@ module _ {K : Type 0} (k : Ghosts K) (e : End) (w : World K)
           ∙ dropped_htlcs (channel_id_of e.channel) told b idle
 
       pub fallen_paid : HavePayments channel_id_of before → HavePayments channel_id_of (behind v)
-      fallen_paid = disconnects channel_id_of one_id before (behind v) e.channel told drops_so halted_so
-          (halted ∙ awake) book_dropped
+      fallen_paid = comes_back channel_id_of one_id before (behind v) e.channel told drops_so
+          (works_still channel_id_of e.channel before (behind v) (halted ∙ awake) halted_so) book_dropped
           (λ i lt. ap (λ o. is_uncovered (course_at i o)) x_side ∙ covered x x_fit i lt)
           (λ o i le a. gone x x_fit o i le (subst (HasAddAt o i) y_side a))
           (λ z i m key none. ap (removal_at i) y_side ∙ none_removed (end_dropped x) y_fit i
@@ -168,6 +168,7 @@ module _ {K : Type 0} (k : Ghosts K) (e : End) (w : World K)
           ∙ none_kept (λ j. has_own_removal j (end_dropped x).dance.log) (channel_id_of e.channel) before.book z m
           (is_same (channel_id_of e.channel) z.key.channel (sym (ap (λ (j : Key). j.channel) key)))
           (ap (λ (j : Key). is_among j.id told.removes) key ∙ none)))
+          (λ q p f i note to near. awake_there channel_id_of e.channel before (halted ∙ awake) q p f i note to)
 
       pub fallen_agrees : HoldAlike channel_id_of before → HoldAlike channel_id_of (behind v)
       fallen_agrees = agrees_fewer channel_id_of before (behind v) (record {

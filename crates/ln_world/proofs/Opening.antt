@@ -32,7 +32,6 @@ use Rattle.ln_payment_circuits.proofs.Parts.{removal_by, stage_by}
 use Rattle.ln_payment_circuits.proofs.Links.{Side, Links, HasAddAt, AreOuts, course_at, decision_at, decision_by}
 use Rattle.ln_payment_circuits.proofs.Links.{removal_at}
 use Rattle.ln_payment_circuits.proofs.Shifts.{side_of as read_side}
-use Rattle.ln_payment_circuits.proofs.Entries.{HasEntry}
 use Rattle.ln_payment_circuits.proofs.Scenes.{HavePayments, by_moves}
 use Rattle.ln_payment_circuits.proofs.Resumed.{HoldAlike}
 use Rattle.ln_payment_circuits.proofs.Agrees.{agrees_fewer, was_same}
@@ -196,7 +195,7 @@ module _ {K : Type 0} (n : Node) (cs ds : List (WorldChannel K))
         outs = outs_so h (k h).0.outs (k h).1.of_links.outs;
         halted = λ d. (k h).1.of_links.halted d ∙ sym (halted_same d);
       })
-      (subst (λ b. HasEntry channel_id_of h xs b (k h).0.note) (sym (halted_same h.channel)) (k h).1.note)
+      (k h).1.note
 
   pub joined_agrees : (xs : List Htlc) → HoldAlike channel_id_of (record { links = S; book = xs })
       → HoldAlike channel_id_of (record { links = T; book = xs })

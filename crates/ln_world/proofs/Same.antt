@@ -42,8 +42,7 @@ module _ (id_of : ℕ → List ℕ) (s t : Scene) (e : IsSame s t) where
 
   pub same_paid : HavePayments id_of s → HavePayments id_of t
   same_paid k h = by_moves id_of h t (k h).0 ((k h).1.kept, (k h).1.holds) [] tt (same_stand h (k h).0 (k h).1.of_links)
-      (subst (λ b. HasEntry id_of h t.book b (k h).0.note) (sym (e.halted h.channel))
-      (subst (λ xs. HasEntry id_of h xs (s.links.halted h.channel) (k h).0.note) (sym e.book) (k h).1.note))
+      (subst (λ xs. HasEntry id_of h xs (k h).0.note) (sym e.book) (k h).1.note)
 
   pub same_agrees : HoldAlike id_of s → HoldAlike id_of t
   same_agrees a = agrees_fewer id_of s t (record {
