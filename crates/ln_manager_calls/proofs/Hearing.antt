@@ -28,8 +28,8 @@ use Rattle.ln_manager_channels.specs.Books.{Book, with_heard, with_height}
 use Rattle.ln_manager_channels.specs.Events.{entry_at, held_by, told_event, told_in}
 use Rattle.ln_manager_channels.specs.Links.{id_by_end, working_end, working_id}
 use Rattle.ln_manager_channels.specs.Calls.{Parts, Hears}
-use Rattle.ln_manager_calls.specs.Standing.{link_of}
-use Rattle.ln_manager_calls.proofs.Hosting.{same_lead}
+use Rattle.ln_manager_calls.specs.Standing.{Loaded, link_of}
+use Rattle.ln_manager_calls.proofs.Hosting.{same_lead, same_records}
 use Rattle.ln_manager_calls.proofs.Kept.{View, view, Leads, entered, lead_then}
 use Rattle.ln_manager_calls.proofs.Pending.{OutOnly, one_more, out_same}
 use Rattle.ln_manager_calls.proofs.Places.{is_among, mapped_at}
@@ -101,68 +101,69 @@ setting_out (entry.Dropped c told) is t = absurd is
 module _ {K : Type 0} (signer : K → Signer) where
   -- the book with these entries
   abbrev pub with_book : View K → Book → View K
-  with_book v b = record { links = v.links; numbers = v.numbers; table = table_of b }
+  with_book v b = record { links = v.links; records = v.records; numbers = v.numbers; table = table_of b }
 
   set_lead : (v : View K) (b : Book) → v.table ≡ table_of b → (x : Entry) → IsSetting x
       → Leads signer v (with_book v (with_entry x b))
   set_lead v b same x is =
       let table : table_of (with_entry x b) ≡ after v.table x = one_more x b ∙ ap (λ t. after t x) (sym same) in
-      entered signer v (with_book v (with_entry x b)) refl refl
+      entered signer v (with_book v (with_entry x b)) refl refl (λ k. refl)
       (subst (OutOnly (λ id. ⊥) v.table) (sym table) (setting_out x is v.table))
       (λ m h. step.Sets x is refl (table ∙ ap (λ t. after t x) (sym h.book)))
 
   route_lead : (v : View K) (b : Book) → v.table ≡ table_of b → (policy : Policy) (used : Use) (o : Option (List ℕ))
       → Leads signer v (with_book v (with_route policy used o b))
-  route_lead v b same policy used None = same_lead signer v (with_book v b) refl refl (sym same)
+  route_lead v b same policy used None = same_lead signer v (with_book v b) refl (λ k. refl) refl (sym same)
   route_lead v b same policy used (Some id) = set_lead v b same (entry.Route id _) tt
 
-  module _ (p q : Parts K) where
+  module _ (old : Loaded) (p q : Parts K) where
     -- ---- the book hears what is told, or nothing
 
-    pub hears_book : (told : Book) → Hears told p q → Leads signer (view p) (with_book (view p) told)
-        → Leads signer (view p) (view q)
+    pub hears_book : (told : Book) → Hears told p q → Leads signer (view old p) (with_book (view old p) told)
+        → Leads signer (view old p) (view old q)
     hears_book told (inl is, stays) leads =
-        lead_then signer (view p) (with_book (view p) told) (view q) leads
-        (same_lead signer (with_book (view p) told) (view q) stays.0 stays.1 (ap table_of is))
+        lead_then signer (view old p) (with_book (view old p) told) (view old q) leads
+        (same_lead signer (with_book (view old p) told) (view old q) stays.0 (same_records old p q stays.2) stays.1
+        (ap table_of is))
     hears_book told (inr is, stays) leads =
-        same_lead signer (view p) (view q) stays.0 stays.1 (ap table_of is)
+        same_lead signer (view old p) (view old q) stays.0 (same_records old p q stays.2) stays.1 (ap table_of is)
 
-    pub sets : (x : Entry) → IsSetting x → Hears (with_entry x p.book) p q → Leads signer (view p) (view q)
-    sets x is h = hears_book (with_entry x p.book) h (set_lead (view p) p.book refl x is)
+    pub sets : (x : Entry) → IsSetting x → Hears (with_entry x p.book) p q → Leads signer (view old p) (view old q)
+    sets x is h = hears_book (with_entry x p.book) h (set_lead (view old p) p.book refl x is)
 
-    pub height : (n : ℕ) → Hears (with_height n p.book) p q → Leads signer (view p) (view q)
+    pub height : (n : ℕ) → Hears (with_height n p.book) p q → Leads signer (view old p) (view old q)
     height n h = hears_book (with_height n p.book) h (by_bound (nat_le n 400000000))
       where
-        by_bound : (b : Bool) → Leads signer (view p)
-            (with_book (view p) (cond b (with_entry (entry.Height n) p.book) p.book))
-        by_bound true = set_lead (view p) p.book refl (entry.Height n) tt
-        by_bound false = same_lead signer (view p) (view p) refl refl refl
+        by_bound : (b : Bool) → Leads signer (view old p)
+            (with_book (view old p) (cond b (with_entry (entry.Height n) p.book) p.book))
+        by_bound true = set_lead (view old p) p.book refl (entry.Height n) tt
+        by_bound false = same_lead signer (view old p) (view old p) refl (λ k. refl) refl refl
 
     pub routes : (policy : Policy) (used : Use) → Hears (with_route policy used used.short_id p.book) p q
-        → Leads signer (view p) (view q)
+        → Leads signer (view old p) (view old q)
     routes policy used h = hears_book (with_route policy used used.short_id p.book) h
-        (route_lead (view p) p.book refl policy used used.short_id)
+        (route_lead (view old p) p.book refl policy used used.short_id)
 
     pub follows : (policy : Policy) (used : Use) → Hears (with_use policy used p.book) p q
-        → Leads signer (view p) (view q)
+        → Leads signer (view old p) (view old q)
     follows policy used h =
         let first = with_route policy used used.short_id p.book in
-        let mid = with_book (view p) first in
+        let mid = with_book (view old p) first in
         hears_book (with_use policy used p.book) h
-        (lead_then signer (view p) mid (with_book (view p) (with_use policy used p.book))
-        (route_lead (view p) p.book refl policy used used.short_id)
+        (lead_then signer (view old p) mid (with_book (view old p) (with_use policy used p.book))
+        (route_lead (view old p) p.book refl policy used used.short_id)
         (set_lead mid first refl (entry.Use used.channel used.takes) tt))
 
     -- ---- an event
 
     event_lead : (c : ℕ) (l : State K) (e : End) (told : ChannelEvent) → slice_get p.links c ≡ Some l
         → l.halted ≡ false → saved_end l.stage ≡ Some e → HasTold e told
-        → Leads signer (view p) (with_book (view p) (with_settled e.dance.channel told p.book))
+        → Leads signer (view old p) (with_book (view old p) (with_settled e.dance.channel told p.book))
     event_lead c l e told at works end has =
-        let v = view p in
+        let v = view old p in
         let w = with_book v (with_settled e.dance.channel told p.book) in
         let table = heard_so e.dance.channel told p.book in
-        entered signer v w refl refl
+        entered signer v w refl refl (λ k. refl)
         (subst (OutOnly (λ id. ⊥) v.table) (sym table) (heard_out e.dance.channel told v.table))
         (λ m h.
         let k = mapped_at link_of m.seats c l (ap (λ ls. slice_get ls c) h.links ∙ at) in
@@ -177,31 +178,33 @@ module _ {K : Type 0} (signer : K → Signer) where
     pub hears : (c n : ℕ)
         → Hears (with_heard (working_id (slice_get p.links c)) (told_in n (working_end (slice_get p.links c))) p.book)
         p q
-        → Leads signer (view p) (view q)
+        → Leads signer (view old p) (view old q)
     hears c n h = hears_book _ h (by_link (slice_get p.links c) refl)
       where
-        stays : Leads signer (view p) (with_book (view p) p.book)
-        stays = same_lead signer (view p) (view p) refl refl refl
+        stays : Leads signer (view old p) (with_book (view old p) p.book)
+        stays = same_lead signer (view old p) (view old p) refl (λ k. refl) refl refl
 
         by_told : (l : State K) (e : End) → slice_get p.links c ≡ Some l → l.halted ≡ false
             → saved_end l.stage ≡ Some e → (o : Option ChannelEvent) → told_event n e ≡ o
-            → Leads signer (view p) (with_book (view p) (with_heard (Some e.dance.channel) o p.book))
+            → Leads signer (view old p) (with_book (view old p) (with_heard (Some e.dance.channel) o p.book))
         by_told l e at works end None is = stays
         by_told l e at works end (Some told) is = event_lead c l e told at works end (told_is n e told is)
 
         by_end : (l : State K) → slice_get p.links c ≡ Some l → l.halted ≡ false → (o : Option End)
             → saved_end l.stage ≡ o
-            → Leads signer (view p) (with_book (view p) (with_heard (id_by_end o) (told_in n o) p.book))
+            → Leads signer (view old p) (with_book (view old p) (with_heard (id_by_end o) (told_in n o) p.book))
         by_end l at works None is = stays
         by_end l at works (Some e) is = by_told l e at works is (told_event n e) refl
 
         by_halted : (l : State K) → slice_get p.links c ≡ Some l → (b : Bool) → l.halted ≡ b
-            → Leads signer (view p) (with_book (view p) (with_heard (cond b None (id_by_end (saved_end l.stage)))
+            → Leads signer (view old p) (with_book (view old p) (with_heard (cond b None
+            (id_by_end (saved_end l.stage)))
             (told_in n (cond b None (saved_end l.stage))) p.book))
         by_halted l at true is = stays
         by_halted l at false is = by_end l at is (saved_end l.stage) refl
 
         by_link : (o : Option (State K)) → slice_get p.links c ≡ o
-            → Leads signer (view p) (with_book (view p) (with_heard (working_id o) (told_in n (working_end o)) p.book))
+            → Leads signer (view old p) (with_book (view old p) (with_heard (working_id o) (told_in n (working_end o))
+            p.book))
         by_link None at = stays
         by_link (Some l) at = by_halted l at l.halted refl

@@ -1,5 +1,5 @@
--- What is kept of a manager that stands for links, numbers and a book: each seat has its number, and a command is out
--- only in the channel of a link that has halted.
+-- What is kept of a manager that stands for links, records, numbers and a book: each seat has its number and its
+-- record, and a command is out only in the channel of a link that has halted.
 use Rattle.std.proofs.Common.{◌≡◌, ◌⊎◌, inl, inr, ℕ, List, [], ◌∷◌, ◌++◌, map, slice_get, slice_set, refl, sym, ap}
 use Rattle.std.proofs.Common.{◌∙◌, subst, Bool, true, false, Some, ◌==◌}
 use Rattle.std.proofs.lemmas.Bool.{eqb-true, eq-eqb}
@@ -19,20 +19,25 @@ use Rattle.ln_manager_laws.proofs.Seats.{IsSound}
 use Rattle.ln_manager_laws.proofs.Stepping.{step_sound}
 use Rattle.ln_manager_channels.specs.Numbers.{NumbersById, number_at}
 use Rattle.ln_manager_channels.specs.Calls.{Parts}
-use Rattle.ln_manager_calls.specs.Standing.{link_of}
+use Rattle.ln_manager_calls.specs.Standing.{Kept, Loaded, link_of, kept_at, IsRecorded, IsStuck}
 use Rattle.ln_manager_calls.proofs.Pending.{OutOnly}
-use Rattle.ln_manager_calls.proofs.Places.{stands_at, got_set, got_other, mapped_set, mapped_at, place_of}
+use Rattle.ln_manager_calls.proofs.Places.{stands_at, got_set, got_other, set_other, mapped_set, mapped_at, place_of}
 
 -- what clauses speak of, with what the book says
 pub record View (K : Type 0) : Type 0 where
   pub links : List (State K)
+  pub records : ℕ → Kept  -- of each place
   pub numbers : NumbersById
   pub table : Table
 
-abbrev pub view : {K : Type 0} → Parts K → View K
-view p = record { links = p.links; numbers = p.numbers; table = table_of p.book }
+abbrev pub view : {K : Type 0} → Loaded → Parts K → View K
+view old p = record { links = p.links; records = kept_at old p.records; numbers = p.numbers; table = table_of p.book }
 
 module _ {K : Type 0} where
+  -- at each place the records are the same
+  abbrev pub SameRecords : View K → View K → Type 0
+  SameRecords v w = (k : ℕ) → w.records k ≡ v.records k
+
   -- ---- of each link
 
   -- its end's channel is that of its stage, and its channel has failed by what fails one
@@ -47,10 +52,6 @@ module _ {K : Type 0} where
   abbrev pub AreNumbered : NumbersById → List (Seat K) → Type 0
   AreNumbered numbers xs = (k : ℕ) (x : Seat K) → slice_get xs k ≡ Some x → HasNumber numbers k x
 
-  -- it has halted, and has this id
-  abbrev pub IsStuck : List ℕ → Seat K → Type 0
-  IsStuck id x = (x.link.halted ≡ true) × (seat_id x ≡ Some id)
-
   abbrev pub AreOut : Manager K → Type 0
   AreOut m = (id : List ℕ) → (pending_command_at id m.book ≡ pending_command.Idle)
       ⊎ ((x : Seat K) × IsIn x m.seats × IsStuck id x)
@@ -63,6 +64,7 @@ module _ {K : Type 0} where
     pub sound : EachSeat IsSound m
     pub faithful : EachSeat IsFaithful m
     pub numbered : AreNumbered v.numbers m.seats
+    pub recorded : (k : ℕ) → IsRecorded (slice_get m.seats k) (v.records k)
     pub out : AreOut m
 
   -- no command is out in the channel of a link that works
@@ -136,8 +138,10 @@ module _ {K : Type 0} where
       pub moved : Step signer m next → w.links ≡ slice_set v.links c y.link → IsFaithful y
           → HasNumber w.numbers c y
           → ((k : ℕ) (z : Seat K) → slice_get m.seats k ≡ Some z → (k ≡ c → ⊥) → HasNumber w.numbers k z)
+          → IsRecorded (Some y) (w.records c)
+          → ((k : ℕ) → (k ≡ c → ⊥) → w.records k ≡ v.records k)
           → ((id : List ℕ) → IsStuck id x → IsStuck id y) → OutOnly (λ id. IsStuck id y) v.table w.table → Reaches w m
-      moved step links faithful number others stuck out = (
+      moved step links faithful number others here beside stuck out = (
         next ∷ [],
         (step, tt),
         record {
@@ -146,10 +150,23 @@ module _ {K : Type 0} where
           sound = step_sound signer m next h.sound step;
           faithful = each_changed x y m next g IsFaithful IsFaithful (λ z k. k) faithful h.faithful;
           numbered = numbered;
+          recorded = recorded;
           out = λ id. was_out id (out id) (h.out id);
         },
       )
         where
+          recorded : (k : ℕ) → IsRecorded (slice_get next.seats k) (w.records k)
+          recorded k = by_place (k == c) refl
+            where
+              by_place : (b : Bool) → (k == c) ≡ b → IsRecorded (slice_get next.seats k) (w.records k)
+              by_place true is =
+                  subst (λ i. IsRecorded (slice_get next.seats i) (w.records i)) (sym (eqb-true k c is))
+                  (subst (λ o. IsRecorded o (w.records c)) (sym (got_set m.seats c x y at)) here)
+              by_place false isnt =
+                  let apart : k ≡ c → ⊥ = λ same. absurd (let no : true ≡ false = sym (eq-eqb k c same) ∙ isnt in cc) in
+                  subst (λ o. IsRecorded o (w.records k)) (sym (set_other m.seats c k y apart))
+                  (subst (IsRecorded (slice_get m.seats k)) (sym (beside k apart)) (h.recorded k))
+
           numbered : AreNumbered w.numbers next.seats
           numbered k z there = by_place (k == c) refl
             where
@@ -184,9 +201,10 @@ module _ {K : Type 0} where
 
     -- ---- the book alone changes
 
-    pub entered : (v w : View K) → w.links ≡ v.links → w.numbers ≡ v.numbers → OutOnly (λ id. ⊥) v.table w.table
+    pub entered : (v w : View K) → w.links ≡ v.links → w.numbers ≡ v.numbers → SameRecords v w
+        → OutOnly (λ id. ⊥) v.table w.table
         → ((m : Manager K) → Stands v m → Step signer m (record m { book = w.table })) → Leads v w
-    entered v w links numbers out step m h =
+    entered v w links numbers records out step m h =
         let n : Manager K = record m { book = w.table } in (
           n ∷ [],
           (step m h, tt),
@@ -196,6 +214,7 @@ module _ {K : Type 0} where
             sound = step_sound signer m n h.sound (step m h);
             faithful = h.faithful;
             numbered = λ k x at. subst (λ ns. HasNumber ns k x) (sym numbers) (h.numbered k x at);
+            recorded = λ k. subst (IsRecorded (slice_get m.seats k)) (sym (records k)) (h.recorded k);
             out = λ id. was_out id (out id) (h.out id);
           },
         )

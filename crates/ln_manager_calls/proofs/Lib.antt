@@ -9,6 +9,7 @@ mod Certain  -- by which refusals it answers a command
 mod Seating  -- what is known of its seat then
 -- ---- a manager that stands for links, numbers and a book
 mod Kept  -- what is kept of it
+mod Recording  -- what a call leaves in its records
 mod Knowing  -- how its links are found by their ids
 mod Steps  -- the steps by which it goes on
 -- ---- a call
@@ -18,4 +19,8 @@ mod Messaging  -- a message
 mod Hearing  -- what the book is told
 mod Obeying  -- what it commands
 mod Deciding  -- what a host decides
-mod Listing  -- every list of them
+mod Listing  -- whichever it is
+-- ---- lives
+mod Reading  -- what a book reads off an end that was loaded
+mod Lives  -- each moment
+mod Loading  -- a load of what is saved

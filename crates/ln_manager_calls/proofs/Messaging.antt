@@ -2,11 +2,12 @@
 use Rattle.std.proofs.Common.{◌≡◌, ◌⊎◌, inl, inr, ℕ, List, [], ◌++◌, slice_get, slice_set, refl, sym, ap, ◌∙◌, subst}
 use Rattle.std.proofs.Common.{Bool}
 use Rattle.std.proofs.Common.{true, false, cond, not, ◌==◌, Option, Some, None, Err}
-use Rattle.std.proofs.lemmas.Bool.{eqb-true}
+use Rattle.std.proofs.lemmas.Bool.{eqb-true, eq-eqb}
 use Rattle.std.proofs.lemmas.List.{set-set}
 use Rattle.ln_msgs.specs.declared.messages.message.Message.{Message}
 use Rattle.ln_refusals.specs.declared.refusal.Refusal.TheVariants as refusal
 use Rattle.ln_keys.specs.Signer.{Signer}
+use Rattle.ln_channel.specs.End.{End}
 use Rattle.ln_channel.specs.State.{State, KeepsChannel, refused}
 use Rattle.ln_channel.specs.Step.{handled, opened}
 use Rattle.ln_link.specs.Calls.{left_by}
@@ -17,7 +18,8 @@ use Rattle.ln_payment_circuits.specs.Snapshot.{All}
 use Rattle.ln_payment_circuits.proofs.Entries.{same_is, is_same}
 use Rattle.ln_manager_laws.specs.Calls as made
 use Rattle.ln_manager_laws.specs.Calls.{Seat, called}
-use Rattle.ln_manager_laws.specs.Manager.{Manager, seat_id}
+use Rattle.ln_manager_laws.specs.Manager as laws
+use Rattle.ln_manager_laws.specs.Manager.{Manager, seat_id, id_by, agreed_id}
 use Rattle.ln_manager_laws.specs.Steps.{Changes, Knows}
 use Rattle.ln_manager_laws.specs.Steps as step
 use Rattle.ln_manager_laws.proofs.Turns.{message_goes}
@@ -28,13 +30,16 @@ use Rattle.ln_manager_channels.specs.Links.{number_in}
 use Rattle.ln_manager_channels.specs.Numbers.{NumbersById, number_at, numbered}
 use Rattle.ln_manager_channels.specs.Places.{AnswersBesideBy, changed_at, changed_by}
 use Rattle.ln_manager_channels.specs.Calls.{Parts, known}
+use Rattle.ln_manager_calls.specs.Standing.{FailsAs, IsRecorded, Loaded, kept_at}
 use Rattle.ln_manager_calls.proofs.Answering.{message_left}
-use Rattle.ln_manager_calls.proofs.Hosting.{same_lead}
-use Rattle.ln_manager_calls.proofs.Kept.{View, view, Stands, Reaches, Leads, at_link, lead_then, with_seat}
+use Rattle.ln_manager_calls.proofs.Hosting.{same_lead, same_records}
+use Rattle.ln_manager_calls.proofs.Kept.{View, view, HasNumber, SameRecords, Stands, Reaches, Leads, at_link}
+use Rattle.ln_manager_calls.proofs.Kept.{lead_then, with_seat}
 use Rattle.ln_manager_calls.proofs.Knowing.{known_own, knowing_all, all_more, all_still, knows_all, number_found}
 use Rattle.ln_manager_calls.proofs.Numbered.{has_number, others_number}
 use Rattle.ln_manager_calls.proofs.Pending.{out_same}
-use Rattle.ln_manager_calls.proofs.Places.{stands_at, got_set}
+use Rattle.ln_manager_calls.proofs.Places.{stands_at, got_set, set_other, set_same}
+use Rattle.ln_manager_calls.proofs.Recording.{Tells, call_tells, kept_of, knowing_of, message_leaves, quiet_tells}
 use Rattle.ln_manager_calls.proofs.Steps.{host_lead, plain_reaches, still_halts}
 
 module _ {K : Type 0} (signer : K → Signer) where
@@ -59,7 +64,8 @@ module _ {K : Type 0} (signer : K → Signer) where
       (links : w.links ≡ slice_set v.links c l') (numbers : w.numbers ≡ v.numbers) (table : w.table ≡ v.table)
       (keeps : KeepsChannel l.stage l'.stage) (m : Message) (rs : Records)
       (fresh : IsFresh c v.numbers rs (opened l m))
-      (is : l' ≡ left_by (handled_beside rs (signer l.keys) l m) (λ r. refused r l) l) where
+      (is : l' ≡ left_by (handled_beside rs (signer l.keys) l m) (λ r. refused r l) l)
+      (told : (o : Option End) → Tells v.records w.records c l l' o) where
     handle_lead : Leads signer v w
     handle_lead = at_link signer v w c l there (λ n h x at link. reaches n h x at link)
       where
@@ -89,7 +95,7 @@ module _ {K : Type 0} (signer : K → Signer) where
               goes = λ works ready. (message_goes ⊥ (λ id. number_at id w.numbers ≡ Some c) (signer l.keys) more m l
                   ready (λ new id opens. agrees (sym alike ∙ new) id opens)).id;
             }) (out_same (λ id. ⊥) v.table w.table (ap (λ (t : Table). t.pending_commands) table)) n h x at link
-            (step.Calls x k g (knows_all xs rs) (table ∙ sym h.book))
+            (told x.end) (step.Calls x k g (knows_all xs rs) (table ∙ sym h.book))
           where
             agrees : is_known (opened l m) rs ≡ false → (id : List ℕ) → opened l m ≡ Some id
                 → number_at id w.numbers ≡ Some c
@@ -101,8 +107,9 @@ module _ {K : Type 0} (signer : K → Signer) where
   -- ---- an id has a number from now on
 
   number_lead : (v w : View K) (c : ℕ) (id : List ℕ) → is_others c (number_in v.numbers v.links id) ≡ false
-      → w.links ≡ v.links → w.numbers ≡ numbered id c v.numbers → w.table ≡ v.table → Leads signer v w
-  number_lead v w c id own links numbers table m h = (
+      → w.links ≡ v.links → SameRecords v w → w.numbers ≡ numbered id c v.numbers → w.table ≡ v.table
+      → Leads signer v w
+  number_lead v w c id own links records numbers table m h = (
     [],
     tt,
     record {
@@ -111,6 +118,7 @@ module _ {K : Type 0} (signer : K → Signer) where
       sound = h.sound;
       faithful = h.faithful;
       numbered = λ k x at i its. ap (number_at i) numbers ∙ by_id k x at i its (same i id) refl;
+      recorded = λ k. subst (IsRecorded (slice_get m.seats k)) (sym (records k)) (h.recorded k);
       out = h.out;
     },
   )
@@ -131,36 +139,96 @@ module _ {K : Type 0} (signer : K → Signer) where
           unnot true isnt = refl
           unnot false isnt = absurd (cc)
 
+  -- ---- an id that another channel has is known to the store
+
+  know_lead : (old : Loaded) (ns : List Newest) (v w : View K) (c : ℕ) (id : List ℕ) → is_others c
+      (number_in v.numbers v.links id) ≡ true
+      → w.links ≡ v.links → ((k : ℕ) → v.records k ≡ kept_at old ns k)
+      → ((k : ℕ) → w.records k ≡ kept_at old (changed_at c (knowing id) ns) k) → w.numbers ≡ v.numbers
+      → w.table ≡ v.table → Leads signer v w
+  know_lead old ns v w c id others links before records numbers table m h = (
+    [],
+    tt,
+    record {
+      links = h.links ∙ sym links;
+      book = h.book ∙ sym table;
+      sound = h.sound;
+      faithful = h.faithful;
+      numbered = λ k x at. subst (λ ns. HasNumber ns k x) (sym numbers) (h.numbered k x at);
+      recorded = λ k. subst (IsRecorded (slice_get m.seats k)) (sym (records k))
+          (by_record (slice_get ns c) refl k);
+      out = h.out;
+    },
+  )
+    where
+      -- it is no id of this channel's
+      apart : (o : Option (Seat K)) → slice_get m.seats c ≡ o → (e : End) → laws.end_in o ≡ Some e
+          → e.dance.channel ≡ id → ⊥
+      apart None at e is same = absurd (cc)
+      apart (Some x) at e is same =
+          let own = number_found v m h c x at id (ap (λ z. id_by z (agreed_id x.link)) is ∙ ap Some same) in
+          absurd (let no : true ≡ false = sym others ∙ ap (is_others c) own ∙ ap not (eq-eqb c c refl) in cc)
+
+      was : (k : ℕ) → IsRecorded (slice_get m.seats k) (kept_at old ns k)
+      was k = subst (IsRecorded (slice_get m.seats k)) (before k) (h.recorded k)
+
+      by_place : (n : Newest) → slice_get ns c ≡ Some n → (k : ℕ) (b : Bool) → (k == c) ≡ b
+          → IsRecorded (slice_get m.seats k) (kept_at old (slice_set ns c (knowing id n)) k)
+      by_place n at k true is =
+          let o = slice_get m.seats c in
+          let first : IsRecorded o (record { since = Some n.kept; loaded = old }) =
+          subst (IsRecorded o) (ap (kept_of old) at) (was c) in
+          let now : IsRecorded o (record { since = Some (knowing id n).kept; loaded = old }) =
+          knowing_of id (FailsAs o) (laws.end_in o) n.kept old (apart o refl) first in
+          subst (λ i. IsRecorded (slice_get m.seats i) (kept_at old (slice_set ns c (knowing id n)) i))
+          (sym (eqb-true k c is))
+          (subst (IsRecorded o) (sym (ap (kept_of old) (got_set ns c n (knowing id n) at))) now)
+      by_place n at k false isnt =
+          subst (IsRecorded (slice_get m.seats k)) (sym (ap (kept_of old) (set_other ns c k (knowing id n)
+          (λ e. absurd (let no : true ≡ false = sym (eq-eqb k c e) ∙ isnt in cc))))) (was k)
+
+      by_record : (o : Option Newest) → slice_get ns c ≡ o → (k : ℕ)
+          → IsRecorded (slice_get m.seats k) (kept_at old (changed_by c (knowing id) o ns) k)
+      by_record None at k = was k
+      by_record (Some n) at k = by_place n at k (k == c) refl
+
   -- ---- a message
 
-  module _ (p q : Parts K) (book : q.book ≡ p.book) (c : ℕ) (keys : K) (m : Message)
+  module _ (old : Loaded) (p q : Parts K) (book : q.book ≡ p.book) (c : ℕ) (keys : K) (m : Message)
       (answer : Answer) where
-    abbrev mid : View K
-    mid = record { links = p.links; numbers = q.numbers; table = table_of p.book }
-
     same_book : table_of q.book ≡ table_of p.book
     same_book = ap table_of book
 
-    -- the link takes it over this record
-    takes : (l l' : State K) (n n' : Newest) → slice_get p.links c ≡ Some l → q.links ≡ slice_set p.links c l'
+    -- over these records
+    abbrev mid : List Newest → View K
+    mid ns = record { links = p.links; records = kept_at old ns; numbers = q.numbers; table = table_of p.book }
+
+    -- the link takes it over the one at its place
+    takes : (ns : List Newest) (l l' : State K) (n n' : Newest) → slice_get p.links c ≡ Some l
+        → q.links ≡ slice_set p.links c l' → slice_get ns c ≡ Some n → q.records ≡ slice_set ns c n'
         → IsFresh c q.numbers (store_of n).records (opened l m) → Takes signer keys m l l' n n' answer
-        → Leads signer mid (view q)
+        → Leads signer (mid ns) (view old q)
     unfolding Takes
-    takes l l' n n' at now fresh h =
+    takes ns l l' n n' at now found kept fresh h =
         let k : State K = record l { keys = keys } in
         let set : View K = record {
           links = slice_set p.links c k;
+          records = kept_at old ns;
           numbers = q.numbers;
           table = table_of p.book;
         } in
         let there = got_set p.links c l k at in
         let links = now ∙ sym (set-set p.links c k l') in
-        lead_then signer mid set (view q)
-        (host_lead signer mid set c l k at refl refl (made.SetKeys keys) tt (λ xs. tt) refl
-        (λ halted channel is. is) refl)
+        let told = call_tells old ns q.records c k l' n n' found kept h.1
+        (message_leaves (λ v. v.items) k l' n n' (signer keys) answer m h.0) in
+        lead_then signer (mid ns) set (view old q)
+        (host_lead signer (mid ns) set c l k at refl refl (made.SetKeys keys) tt (λ xs. tt) refl
+        (λ halted channel is. is)
+        (quiet_tells (kept_at old ns) (kept_at old ns) c l k (λ i. refl) (inl refl, refl)) refl)
         (elim (message_left (λ v. v.items) k l' (signer keys) m answer (store_of n) (store_of n') h.0) [
-          | inl is ↦ handle_lead set (view q) c k l' there links refl same_book h.1 m (store_of n).records fresh is
-          | inr halted ↦ still_halts signer set (view q) c k l' there links refl halted h.1 same_book
+          | inl is ↦ handle_lead set (view old q) c k l' there links refl same_book h.1 m (store_of n).records fresh is
+              told
+          | inr halted ↦ still_halts signer set (view old q) c k l' there links refl halted h.1 told same_book
         ])
 
     -- the store knows it, or it has this number
@@ -189,46 +257,55 @@ module _ {K : Type 0} (signer : K → Signer) where
         by_others true numbers at = inl (known_at (slice_get p.records c) refl at)
         by_others false numbers at = inr (ap (number_at new) numbers ∙ has_number new c p.numbers)
 
-    -- first its number
-    numbers_lead : (o : Option (List ℕ)) → q.numbers ≡ numbered_before c (number_in p.numbers p.links) o p.numbers
-        → Leads signer (view p) mid
-    numbers_lead None numbers = same_lead signer (view p) mid refl numbers refl
-    numbers_lead (Some id) numbers = by_others (is_others c (number_in p.numbers p.links id)) refl numbers
+    -- first its number, or what the store knows
+    ready_lead : (o : Option (List ℕ)) → q.numbers ≡ numbered_before c (number_in p.numbers p.links) o p.numbers
+        → Leads signer (view old p) (mid (known_before c (number_in p.numbers p.links) o p.records))
+    ready_lead None numbers = same_lead signer (view old p) (mid p.records) refl (λ k. refl) numbers refl
+    ready_lead (Some id) numbers = by_others (is_others c (number_in p.numbers p.links id)) refl numbers
       where
         by_others : (b : Bool) → is_others c (number_in p.numbers p.links id) ≡ b
-            → q.numbers ≡ cond b p.numbers (numbered id c p.numbers) → Leads signer (view p) mid
-        by_others true is numbers = same_lead signer (view p) mid refl numbers refl
-        by_others false isnt numbers = number_lead (view p) mid c id isnt refl numbers refl
-
-    nothing : q.links ≡ p.links → Leads signer mid (view q)
-    nothing links = same_lead signer mid (view q) links refl same_book
+            → q.numbers ≡ cond b p.numbers (numbered id c p.numbers)
+            → Leads signer (view old p) (mid (cond b (changed_at c (knowing id) p.records) p.records))
+        by_others true is numbers =
+            know_lead old p.records (view old p) (mid (changed_at c (knowing id) p.records)) c id is refl (λ k. refl)
+            (λ k. refl) numbers refl
+        by_others false isnt numbers = number_lead (view old p) (mid p.records) c id isnt refl (λ k. refl) numbers refl
 
     takes_over : (number : List ℕ → Option ℕ)
         → q.numbers ≡ numbered_before c number (opened_in (slice_get p.links c) m) p.numbers
         → TakesOver signer c keys m answer p.links q.links
-        (known_before c number (opened_in (slice_get p.links c) m) p.records) q.records → Leads signer mid (view q)
+        (known_before c number (opened_in (slice_get p.links c) m) p.records) q.records
+        → Leads signer (mid (known_before c number (opened_in (slice_get p.links c) m) p.records)) (view old q)
     unfolding TakesOver
     takes_over number numbers h = by_record (slice_get ns c) refl h
       where
         ns : List Newest
         ns = known_before c number (opened_in (slice_get p.links c) m) p.records
 
-        by_link : (n n' : Newest) → slice_get ns c ≡ Some n → (o : Option (State K)) → slice_get p.links c ≡ o
-            → AnswersBesideBy c (Takes signer keys m) o answer p.links q.links n n' → Leads signer mid (view q)
-        by_link n n' found None at k = nothing k.1
-        by_link n n' found (Some l) at k = takes l k.0 n n' at k.1
+        nothing : q.links ≡ p.links → q.records ≡ ns → Leads signer (mid ns) (view old q)
+        nothing links records =
+            same_lead signer (mid ns) (view old q) links (λ k. ap (λ xs. kept_at old xs k) records) refl same_book
+
+        by_link : (n n' : Newest) → slice_get ns c ≡ Some n → q.records ≡ slice_set ns c n' → (o : Option (State K))
+            → slice_get p.links c ≡ o → AnswersBesideBy c (Takes signer keys m) o answer p.links q.links n n'
+            → Leads signer (mid ns) (view old q)
+        by_link n n' found kept None at k =
+            nothing k.1 (kept ∙ ap (slice_set ns c) k.2 ∙ set_same ns c n found)
+        by_link n n' found kept (Some l) at k = takes ns l k.0 n n' at k.1 found kept
             (subst (λ o. IsFresh c q.numbers (store_of n).records (opened_in o m)) at
             (is_ready number (opened_in (slice_get p.links c) m) n numbers found)) k.2
 
         by_record : (o : Option Newest) → slice_get ns c ≡ o
             → AnswersBesideBy c (λ n n' l l' a. TakesAt signer c keys m a l l' n n') o answer ns q.records p.links
-            q.links → Leads signer mid (view q)
-        by_record None at k = nothing k.2
-        by_record (Some n) at k = by_link n k.0 at (slice_get p.links c) refl k.2
+            q.links → Leads signer (mid ns) (view old q)
+        by_record None at k = nothing k.2 k.1
+        by_record (Some n) at k = by_link n k.0 at k.1 (slice_get p.links c) refl k.2
 
-    pub messages : TakesMessage signer c keys m answer (known p) (known q) → Leads signer (view p) (view q)
-    messages (inl h) = same_lead signer (view p) (view q) (ap (λ (k : Known K). k.links) h.1)
-        (ap (λ (k : Known K). k.numbers) h.1) same_book
+    pub messages : TakesMessage signer c keys m answer (known p) (known q) → Leads signer (view old p) (view old q)
+    messages (inl h) = same_lead signer (view old p) (view old q) (ap (λ (k : Known K). k.links) h.1)
+        (same_records old p q (ap (λ (k : Known K). k.records) h.1)) (ap (λ (k : Known K). k.numbers) h.1) same_book
     messages (inr h) =
-        lead_then signer (view p) mid (view q) (numbers_lead (opened_in (slice_get p.links c) m) h.0)
-        (takes_over (number_in p.numbers p.links) h.0 h.1)
+        let number = number_in p.numbers p.links in
+        let o = opened_in (slice_get p.links c) m in
+        lead_then signer (view old p) (mid (known_before c number o p.records)) (view old q) (ready_lead o h.0)
+        (takes_over number h.0 h.1)

@@ -37,28 +37,32 @@ use Rattle.ln_manager_channels.specs.Calls.{Parts, obeyed}
 use Rattle.ln_manager_calls.proofs.Answering.{IsMade, command_left}
 use Rattle.ln_manager_calls.proofs.Certain.{IfErr, IsBooks, IsCertain, certain}
 use Rattle.ln_manager_calls.proofs.Due.{first_books, first_due_is}
-use Rattle.ln_manager_calls.proofs.Hosting.{same_lead}
+use Rattle.ln_manager_calls.proofs.Hosting.{same_lead, same_records}
 use Rattle.ln_manager_calls.proofs.Kept.{View, view, Leads}
 use Rattle.ln_manager_calls.proofs.Kept.{seat_changes}
 use Rattle.ln_manager_calls.proofs.Pending.{IsSure, OutOnly, one_more, out_answered, out_taken, taken_out}
 use Rattle.ln_payment_circuits.specs.Snapshot.{IsIn}
-use Rattle.ln_manager_calls.specs.Standing.{link_of}
+use Rattle.ln_manager_calls.specs.Standing.{Loaded, kept_at, link_of}
 use Rattle.ln_manager_calls.proofs.Places.{got_set, is_among, mapped_at}
+use Rattle.ln_manager_calls.proofs.Recording.{Tells, call_tells, command_leaves, halt_tells}
 use Rattle.ln_manager_calls.proofs.Seating.{FailsOnly, drops_keeps}
 use Rattle.ln_manager_calls.proofs.Steps.{IsWorking, halts_lead, quiet_lead}
 
 -- ---- a link is given a command that was taken
 
-module _ {K : Type 0} (signer : K → Signer) (c : ℕ) (l : State K) (e : End) where
+module _ {K : Type 0} (signer : K → Signer) (old : Loaded) (c : ℕ) (l : State K) (e : End) where
   abbrev id : List ℕ
   id = e.dance.channel
 
   -- it answers, and the book hears that; or it halts, and the book hears nothing
   pub data IsGiven (o : Out) (y : Command) (b : Book) (g : Given) (r q : Obeyed K) : Type 0 where
     Answered : (l' : State K) → q.links ≡ slice_set r.links c l' → l' ≡ made.made signer (made.Command y) l
+        → ((end : Option End) → Tells (kept_at old r.records) (kept_at old q.records) c l l' end)
         → table_of q.book ≡ replay (table_of b) (obeying signer l e o y) → IsGiven o y b g r q
     Halted : (l' : State K) → q.links ≡ slice_set r.links c l' → l'.halted ≡ true
-        → KeepsChannel l.stage l'.stage → q.book ≡ r.book → g ≡ given.Halted → IsGiven o y b g r q
+        → KeepsChannel l.stage l'.stage → ((end : Option End) → Tells (kept_at old r.records) (kept_at old q.records) c
+        l l' end)
+        → q.book ≡ r.book → g ≡ given.Halted → IsGiven o y b g r q
 
   module _ (works : l.halted ≡ false) (end : saved_end l.stage ≡ Some e) (o : Out) (y : Command)
       (b : Book) (g : Given) (r q : Obeyed K) (at : slice_get r.links c ≡ Some l)
@@ -77,8 +81,9 @@ module _ {K : Type 0} (signer : K → Signer) (c : ℕ) (l : State K) (e : End) 
 
     answers : (l' : State K) (answer : Answer) → q.links ≡ slice_set r.links c l'
         → IsMade (λ v. v.items) l l' (commanded (signer l.keys) l y) (λ r. l) answer
+        → ((z : Option End) → Tells (kept_at old r.records) (kept_at old q.records) c l l' z)
         → GivesBy c id y answer (halted_in (slice_get q.links c)) g r q → IsGiven o y b g r q
-    answers l' answer links m h =
+    answers l' answer links m told h =
         let there : slice_get q.links c ≡ Some l' = ap (λ ls. slice_get ls c) links ∙ got_set r.links c l l' at in
         let still : halted_in (slice_get q.links c) ≡ false =
         ap halted_in there ∙ ap (λ (z : State K). z.halted) m.is ∙ made_halted signer (made.Command y) l ∙ works in
@@ -90,47 +95,54 @@ module _ {K : Type 0} (signer : K → Signer) (c : ℕ) (l : State K) (e : End) 
         ≡ answer_to (command_subject (next_own_id e) y) (done_or_refused (commanded (signer l.keys) l y)) =
         ap (λ z. answer_to z (done_in answer)) subject
         ∙ ap (answer_to (command_subject (next_own_id e) y)) m.answer in
-        Answered l' links m.is (heard _ (book ∙ ap (λ a. replied id a r.book) said))
+        Answered l' links m.is told (heard _ (book ∙ ap (λ a. replied id a r.book) said))
 
     stops : (l' : State K) (answer : Answer) → q.links ≡ slice_set r.links c l' → l'.halted ≡ true
-        → KeepsChannel l.stage l'.stage → GivesBy c id y answer (halted_in (slice_get q.links c)) g r q
-        → IsGiven o y b g r q
-    stops l' answer links halted keeps h =
+        → KeepsChannel l.stage l'.stage → ((z : Option End) → Tells (kept_at old r.records) (kept_at old q.records) c l
+        l' z)
+        → GivesBy c id y answer (halted_in (slice_get q.links c)) g r q → IsGiven o y b g r q
+    stops l' answer links halted keeps told h =
         let there : slice_get q.links c ≡ Some l' = ap (λ ls. slice_get ls c) links ∙ got_set r.links c l l' at in
         let over : halted_in (slice_get q.links c) ≡ true = ap halted_in there ∙ halted in
         let subject = subject_in (slice_get r.links c) y in
-        Halted l' links halted keeps (h.1 ∙ ap (λ z. heard_by z id subject answer r.book) over)
+        Halted l' links halted keeps told (h.1 ∙ ap (λ z. heard_by z id subject answer r.book) over)
         (h.0 ∙ ap (λ z. given_by z subject y answer) over)
 
-    one_link : (l' : State K) (n n' : Newest) (answer : Answer) → q.links ≡ slice_set r.links c l'
+    one_link : (l' : State K) (n n' : Newest) (answer : Answer) → slice_get r.records c ≡ Some n
+        → q.links ≡ slice_set r.links c l' → q.records ≡ slice_set r.records c n'
         → Obeys signer y l l' n n' answer → GivesBy c id y answer (halted_in (slice_get q.links c)) g r q
         → IsGiven o y b g r q
     unfolding Obeys
-    one_link l' n n' answer links k h =
+    one_link l' n n' answer found links kept k h =
+        let told = call_tells old r.records q.records c l l' n n' found kept k.1
+        (command_leaves (λ v. v.items) l l' n n' (signer l.keys) answer y k.0) in
         elim (command_left (λ v. v.items) l l' y (commanded (signer l.keys) l y) answer (store_of n) (store_of n')
         k.0) [
-          | inl m ↦ answers l' answer links m h
-          | inr halted ↦ stops l' answer links halted k.1 h
+          | inl m ↦ answers l' answer links m told h
+          | inr halted ↦ stops l' answer links halted k.1 told h
         ]
 
     over_record : (answer : Answer) → ObeysOver signer c y answer r.links q.links r.records q.records
         → GivesBy c id y answer (halted_in (slice_get q.links c)) g r q → IsGiven o y b g r q
     unfolding ObeysOver
-    over_record answer k h = by_record (slice_get r.records c) k
+    over_record answer k h = by_record (slice_get r.records c) refl k
       where
-        by_link : (n n' : Newest) (z : Option (State K)) → slice_get r.links c ≡ z
+        by_link : (n n' : Newest) → slice_get r.records c ≡ Some n → q.records ≡ slice_set r.records c n'
+            → (z : Option (State K)) → slice_get r.links c ≡ z
             → AnswersBesideBy c (Obeys signer y) z answer r.links q.links n n' → IsGiven o y b g r q
-        by_link n n' None none k = absurd (let no : None ≡ Some l = sym none ∙ at in cc)
-        by_link n n' (Some z) found k =
+        by_link n n' at' kept None none k = absurd (let no : None ≡ Some l = sym none ∙ at in cc)
+        by_link n n' at' kept (Some z) found k =
             let some : Some z ≡ Some l = sym found ∙ at in
             let same : z ≡ l = cc in
-            one_link k.0 n n' answer k.1 (subst (λ i. Obeys signer y i k.0 n n' answer) same k.2) h
+            one_link k.0 n n' answer at' k.1 kept (subst (λ i. Obeys signer y i k.0 n n' answer) same k.2) h
 
-        by_record : (z : Option Newest) → ObeysBy signer c y z answer r.links q.links r.records q.records
-            → IsGiven o y b g r q
-        by_record None k =
-            stops (halts l) answer (k.1 ∙ ap (λ z. changed_by c halts z r.links) at) refl (drops_keeps l) h
-        by_record (Some n) k = by_link n k.0 (slice_get r.links c) refl k.2
+        by_record : (z : Option Newest) → slice_get r.records c ≡ z
+            → ObeysBy signer c y z answer r.links q.links r.records q.records → IsGiven o y b g r q
+        by_record None none k =
+            stops (halts l) answer (k.1 ∙ ap (λ z. changed_by c halts z r.links) at) refl (drops_keeps l)
+            (halt_tells (kept_at old r.records) (kept_at old q.records) c l (halts l) (λ i. ap (λ ns. kept_at old ns i)
+            k.2) refl) h
+        by_record (Some n) found k = by_link n k.0 found k.1 (slice_get r.links c) refl k.2
 
     pub is_given : Gives signer c id y g r q → IsGiven o y b g r q
     unfolding Gives
@@ -156,10 +168,11 @@ knowing_failure signer v w c l at leads m h =
     leads (λ works r is. (h.faithful k.0 (is_among m.seats c k.0 k.1)).failed
     (ap (λ (z : State _). z.halted) k.2 ∙ works) r (ap (λ (z : State _). z.failure) k.2 ∙ is)) m h
 
-module _ {K : Type 0} (signer : K → Signer) (p q : Parts K) (numbers : q.numbers ≡ p.numbers)
+module _ {K : Type 0} (signer : K → Signer) (old : Loaded) (p q : Parts K) (numbers : q.numbers ≡ p.numbers)
     (s : Services) (c : ℕ) where
-  stays : obeyed q ≡ obeyed p → Leads signer (view p) (view q)
-  stays is = same_lead signer (view p) (view q) (ap (λ (z : Obeyed K). z.links) is) numbers
+  stays : obeyed q ≡ obeyed p → Leads signer (view old p) (view old q)
+  stays is = same_lead signer (view old p) (view old q) (ap (λ (z : Obeyed K). z.links) is)
+      (same_records old p q (ap (λ (z : Obeyed K). z.records) is)) numbers
       (ap (λ (z : Obeyed K). table_of z.book) is)
 
   module _ (l : State K) (e : End) (at : slice_get p.links c ≡ Some l) (works : l.halted ≡ false)
@@ -178,21 +191,23 @@ module _ {K : Type 0} (signer : K → Signer) (p q : Parts K) (numbers : q.numbe
 
     -- it halts, and the book hears nothing more
     over : (l' : State K) → q.links ≡ slice_set p.links c l' → l'.halted ≡ true → KeepsChannel l.stage l'.stage
-        → q.book ≡ r.book → Leads signer (view p) (view q)
-    over l' links halted keeps book =
+        → ((z : Option End) → Tells (kept_at old p.records) (kept_at old q.records) c l l' z) → q.book ≡ r.book
+        → Leads signer (view old p) (view old q)
+    over l' links halted keeps told book =
         let is : table_of q.book ≡ after table (entry.Taken e.dance.channel o) =
         ap table_of book ∙ one_more (entry.Taken e.dance.channel o) p.book in
-        halts_lead signer (view p) (view q) c l l' at links numbers halted
-        keeps (out_now is) (ap (λ (t : Table). t.htlcs) is)
+        halts_lead signer (view old p) (view old q) c l l' at links numbers halted
+        keeps told (out_now is) (ap (λ (t : Table). t.htlcs) is)
 
     obeys : is_decision y ≡ false → (l' : State K) → q.links ≡ slice_set p.links c l'
-        → l' ≡ made.made signer (made.Command y) l → table_of q.book ≡ replay table (obeying signer l e o y)
-        → Leads signer (view p) (view q)
-    obeys isnt l' links is book = knowing_failure signer (view p) (view q) c l at (λ fails.
+        → l' ≡ made.made signer (made.Command y) l → ((z : Option End) → Tells (kept_at old p.records)
+        (kept_at old q.records) c l l' z)
+        → table_of q.book ≡ replay table (obeying signer l e o y) → Leads signer (view old p) (view old q)
+    obeys isnt l' links is told book = knowing_failure signer (view old p) (view old q) c l at (λ fails.
         let d = first_due_is s e.dance.channel table o y first isnt in
         let a = answer_to (command_subject (next_own_id e) y) (done_or_refused (commanded (signer l.keys) l y)) in
-        quiet_lead signer (view p) (view q) c l l' at links numbers (made.Command y) tt is
-        (λ halted. absurd (let no : true ≡ false = sym halted ∙ works in cc))
+        quiet_lead signer (view old p) (view old q) c l l' at links numbers (made.Command y) tt is
+        (λ halted. absurd (let no : true ≡ false = sym halted ∙ works in cc)) told
         (subst (OutOnly (λ id. ⊥) table) (sym book) (out_answered (λ id. ⊥) e.dance.channel o a table
         (sure_answer signer l y (command_subject (next_own_id e) y) works (fails works)
         (first_books s e.dance.channel table o y first))))
@@ -207,45 +222,48 @@ module _ {K : Type 0} (signer : K → Signer) (p q : Parts K) (numbers : q.numbe
         (book ∙ ap (λ t. replay t (obeying signer l e o y)) (sym h.book)
         ∙ ap (λ k. replay m.book (obeying signer k e o y)) (sym link))))
 
-    given_lead : is_decision y ≡ false → IsGiven signer c l e o y p.book g r (obeyed q)
-        → Leads signer (view p) (view q)
-    given_lead isnt (Answered l' links is book) = obeys isnt l' links is book
-    given_lead isnt (Halted l' links halted keeps book g) = over l' links halted keeps book
+    given_lead : is_decision y ≡ false → IsGiven signer old c l e o y p.book g r (obeyed q)
+        → Leads signer (view old p) (view old q)
+    given_lead isnt (Answered l' links is told book) = obeys isnt l' links is told book
+    given_lead isnt (Halted l' links halted keeps told book g) = over l' links halted keeps told book
 
     by_command : (b : Bool) → is_decision y ≡ b → ObeysCommand signer c e.dance.channel y b g r (obeyed q)
-        → Leads signer (view p) (view q)
+        → Leads signer (view old p) (view old q)
     by_command true is h =
         over (halts l) (ap (λ (z : Obeyed K). z.links) h.1 ∙ ap (λ z. changed_by c halts z p.links) at) refl
-        (drops_keeps l) (ap (λ (z : Obeyed K). z.book) h.1)
+        (drops_keeps l)
+        (halt_tells (kept_at old p.records) (kept_at old q.records) c l (halts l) (same_records old p q
+        (ap (λ (z : Obeyed K). z.records) h.1)) refl)
+        (ap (λ (z : Obeyed K). z.book) h.1)
     by_command false isnt h =
-        given_lead isnt (is_given signer c l e works end o y p.book g r (obeyed q) at refl h)
+        given_lead isnt (is_given signer old c l e works end o y p.book g r (obeyed q) at refl h)
 
   at_first : (l : State K) (e : End) → slice_get p.links c ≡ Some l → l.halted ≡ false
       → saved_end l.stage ≡ Some e → (f : Option (Out × Command)) → first_of s e.dance.channel p.book ≡ f → (g : Given)
       → ObeysFirst signer c e.dance.channel (option_map (λ x. x.1) f) g (taking e.dance.channel f (obeyed p)) (obeyed q)
-      → Leads signer (view p) (view q)
+      → Leads signer (view old p) (view old q)
   at_first l e at works end None comes g h = stays h.1
   at_first l e at works end (Some x) comes g h =
       by_command l e at works end x.0 x.1 comes g (is_decision x.1) refl h
 
   at_end : (l : State K) → slice_get p.links c ≡ Some l → l.halted ≡ false → (o : Option End)
       → saved_end l.stage ≡ o → (g : Given) → ObeysBook signer s c (id_by_end o) g (obeyed p) (obeyed q)
-      → Leads signer (view p) (view q)
+      → Leads signer (view old p) (view old q)
   at_end l at works None end g h = stays h.1
   at_end l at works (Some e) end g h =
       at_first l e at works end (first_of s e.dance.channel p.book) refl g h
 
   pub obeys_book : (g : Given) → ObeysBook signer s c (working_id (slice_get p.links c)) g (obeyed p) (obeyed q)
-      → Leads signer (view p) (view q)
+      → Leads signer (view old p) (view old q)
   obeys_book g h = by_link (slice_get p.links c) refl h
     where
       by_halted : (l : State K) → slice_get p.links c ≡ Some l → (b : Bool) → l.halted ≡ b
           → ObeysBook signer s c (cond b None (id_by_end (saved_end l.stage))) g (obeyed p) (obeyed q)
-          → Leads signer (view p) (view q)
+          → Leads signer (view old p) (view old q)
       by_halted l at true is k = stays k.1
       by_halted l at false is k = at_end l at is (saved_end l.stage) refl g k
 
       by_link : (o : Option (State K)) → slice_get p.links c ≡ o
-          → ObeysBook signer s c (working_id o) g (obeyed p) (obeyed q) → Leads signer (view p) (view q)
+          → ObeysBook signer s c (working_id o) g (obeyed p) (obeyed q) → Leads signer (view old p) (view old q)
       by_link None at k = stays k.1
       by_link (Some l) at k = by_halted l at l.halted refl k

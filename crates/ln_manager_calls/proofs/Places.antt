@@ -12,7 +12,7 @@ module _ {A : Type 0} where
     pub others : (Q : A → Type 0) → ((k : ℕ) (z : A) → slice_get xs k ≡ Some z → (k ≡ c → ⊥) → Q z)
         → All Q (before ++ after)
 
-  all_by : (Q : A → Type 0) (xs : List A) → ((k : ℕ) (z : A) → slice_get xs k ≡ Some z → Q z) → All Q xs
+  pub all_by : (Q : A → Type 0) (xs : List A) → ((k : ℕ) (z : A) → slice_get xs k ≡ Some z → Q z) → All Q xs
   all_by Q [] h = tt
   all_by Q (x ∷ xs) h = (h zero x refl, all_by Q xs (λ k. h (suc k)))
 
@@ -53,6 +53,18 @@ module _ {A : Type 0} where
   got_other (x ∷ xs) zero (suc k) y z is apart = is
   got_other (x ∷ xs) (suc c) zero y z is apart = is
   got_other (x ∷ xs) (suc c) (suc k) y z is apart = got_other xs c k y z is (λ e. apart (ap (λ i. suc i) e))
+
+  pub set_other : (xs : List A) (c k : ℕ) (y : A) → (k ≡ c → ⊥) → slice_get (slice_set xs c y) k ≡ slice_get xs k
+  set_other [] c k y apart = refl
+  set_other (x ∷ xs) zero zero y apart = absurd (apart refl)
+  set_other (x ∷ xs) zero (suc k) y apart = refl
+  set_other (x ∷ xs) (suc c) zero y apart = refl
+  set_other (x ∷ xs) (suc c) (suc k) y apart = set_other xs c k y (λ e. apart (ap (λ i. suc i) e))
+
+  pub set_same : (xs : List A) (c : ℕ) (x : A) → slice_get xs c ≡ Some x → slice_set xs c x ≡ xs
+  set_same [] c x is = refl
+  set_same (y ∷ xs) zero x is = ap (λ z. z ∷ xs) (cc)
+  set_same (y ∷ xs) (suc c) x is = ap (λ zs. y ∷ zs) (set_same xs c x is)
 
   pub is_among : (xs : List A) (c : ℕ) (x : A) → slice_get xs c ≡ Some x → IsIn x xs
   is_among [] c x is = absurd (cc)

@@ -16,7 +16,8 @@ use Rattle.ln_manager_laws.specs.Manager.{seat_id, id_by}
 use Rattle.ln_manager_laws.proofs.Hosted.{works_id, halted_id}
 use Rattle.ln_manager_laws.proofs.Seats.{IsSound}
 use Rattle.ln_manager_laws.proofs.Turns.{IdGoes, Keeps, Loses, Agrees}
-use Rattle.ln_manager_calls.proofs.Kept.{IsFaithful, IsStuck}
+use Rattle.ln_manager_calls.specs.Standing.{IsStuck}
+use Rattle.ln_manager_calls.proofs.Kept.{IsFaithful}
 
 pub saved_kept : (s : Stage) (e : End) → saved_end s ≡ Some e → kept_channel s ≡ Some e.dance.channel
 saved_kept (stage.Funded f) e is = let same : f ≡ e = cc in ap (λ (z : End). Some z.dance.channel) same

@@ -22,10 +22,12 @@ use Rattle.ln_manager_laws.proofs.Turns.{IdGoes, Keeps, Loses, Agrees, IsReady, 
 use Rattle.ln_manager_laws.proofs.Turns.{connection_goes}
 use Rattle.ln_channel.specs.declared.machine.Stage.{Stage}
 use Rattle.ln_manager_channels.specs.Numbers.{NumbersById, number_at}
-use Rattle.ln_manager_calls.proofs.Kept.{View, Stands, HasNumber, IsStuck, Reaches, Leads, moved}
+use Rattle.ln_manager_calls.specs.Standing.{IsRecorded, IsStuck}
+use Rattle.ln_manager_calls.proofs.Kept.{View, Stands, HasNumber, Reaches, Leads, moved}
 use Rattle.ln_manager_calls.proofs.Kept.{at_link, with_seat, seat_changes}
 use Rattle.ln_manager_calls.proofs.Pending.{OutOnly, out_same, out_wide}
 use Rattle.ln_manager_calls.proofs.Places.{is_among}
+use Rattle.ln_manager_calls.proofs.Recording.{Tells, halted_recorded, seated_recorded}
 use Rattle.ln_manager_calls.proofs.Seating.{FailsOnly, seated_link, seated_faithful, seated_number, seated_stuck}
 use Rattle.ln_manager_calls.proofs.Seating.{halted_seat, halted_link, halted_faithful, halted_number, halted_stuck}
 use Rattle.ln_manager_calls.proofs.Seating.{now_stuck}
@@ -160,11 +162,16 @@ module _ {K : Type 0} where
 
   module _ (signer : K → Signer) (v w : View K) (c : ℕ) (l l' : State K) (there : slice_get v.links c ≡ Some l)
       (links : w.links ≡ slice_set v.links c l') (numbers : w.numbers ≡ v.numbers) where
+    -- what stands at its place is recorded
+    its_record : (m : Manager K) → Stands v m → (x : Seat K) → slice_get m.seats c ≡ Some x
+        → IsRecorded (Some x) (v.records c)
+    its_record m h x at = subst (λ o. IsRecorded o (v.records c)) at (h.recorded c)
+
     pub plain_reaches : (k : Call K) → IsPlain k → IsMadeBy signer k w.numbers c l l'
         → OutOnly (λ id. ⊥) v.table w.table → (m : Manager K) → Stands v m → (x : Seat K)
-        → slice_get m.seats c ≡ Some x → x.link ≡ l
+        → slice_get m.seats c ≡ Some x → x.link ≡ l → Tells v.records w.records c l l' x.end
         → Step signer m (with_seat c (called signer k x) w.table m) → Reaches signer w m
-    plain_reaches k plain given out m h x at link step =
+    plain_reaches k plain given out m h x at link told step =
         let y = seated x (made.made signer k x.link) in
         let to_y : called signer k x ≡ y = plain_seat signer k x plain in
         let g : IsMadeBy signer k w.numbers c x.link l' =
@@ -173,6 +180,9 @@ module _ {K : Type 0} where
         let x_in = is_among m.seats c x at in
         let s = h.sound x x_in in
         let t : IsSound y = subst IsSound to_y (called_sound signer k x s) in
+        let tells : Tells v.records w.records c x.link (made.made signer k x.link) x.end =
+        subst (λ z. Tells v.records w.records c x.link z x.end) g.is (subst (λ z. Tells v.records w.records c z l'
+        x.end) (sym link) told) in
         moved signer v w m h c x y at
         (subst (λ z. Step signer m (with_seat c z w.table m)) to_y step)
         (links ∙ ap (slice_set v.links c) (g.is ∙ sym (seated_link x (made.made signer k x.link) same)))
@@ -183,37 +193,43 @@ module _ {K : Type 0} where
         (λ works. g.goes works (s.works works).1)
         (λ id its. ap (number_at id) numbers ∙ h.numbered c x at id its))
         (λ i z found apart. subst (λ ns. HasNumber ns i z) (sym numbers) (h.numbered i z found))
+        (seated_recorded v.records w.records c x (made.made signer k x.link) tells (its_record m h x at) s same
+        (λ works. made_fails signer k x.link ((h.faithful x x_in).failed (sym same ∙ works)))) tells.beside
         (seated_stuck x (made.made signer k x.link) same)
         (out_wide (λ id. ⊥) (λ id. IsStuck id y) v.table w.table (λ id none. absurd none) out)
 
     -- one that opens no channel
     pub quiet_lead : (k : Call K) → IsQuiet k → l' ≡ made.made signer k l
-        → (l.halted ≡ true → KeepsChannel l.stage l'.stage) → OutOnly (λ id. ⊥) v.table w.table
+        → (l.halted ≡ true → KeepsChannel l.stage l'.stage) → ((o : Option End) → Tells v.records w.records c l l' o)
+        → OutOnly (λ id. ⊥) v.table w.table
         → ((m : Manager K) → Stands v m → (x : Seat K) → slice_get m.seats c ≡ Some x → x.link ≡ l
         → Step signer m (with_seat c (called signer k x) w.table m)) → Leads signer v w
-    quiet_lead k quiet is keeps out step = at_link signer v w c l there (λ m h x at link.
+    quiet_lead k quiet is keeps told out step = at_link signer v w c l there (λ m h x at link.
         plain_reaches k (quiet_plain k quiet) (record {
           is = is;
           keeps = keeps;
           goes = λ works ready. goes_wide (λ id. number_at id w.numbers ≡ Some c) l.stage
               (made.made signer k l).stage (quiet_goes signer k l quiet ready);
-        }) out m h x at link (step m h x at link))
+        }) out m h x at link (told x.end) (step m h x at link))
 
     -- for a peer or a user
     pub host_lead : (k : Call K) → IsQuiet k → ((xs : List (Seat K)) → IsHosts xs k) → l' ≡ made.made signer k l
-        → (l.halted ≡ true → KeepsChannel l.stage l'.stage) → w.table ≡ v.table → Leads signer v w
-    host_lead k quiet hosts is keeps same =
-        quiet_lead k quiet is keeps
+        → (l.halted ≡ true → KeepsChannel l.stage l'.stage) → ((o : Option End) → Tells v.records w.records c l l' o)
+        → w.table ≡ v.table → Leads signer v w
+    host_lead k quiet hosts is keeps told same =
+        quiet_lead k quiet is keeps told
         (out_same (λ id. ⊥) v.table w.table (ap (λ (t : Table). t.pending_commands) same)) (λ m h x at link.
         let g = seat_changes c x (called signer k x) w.table m at in
         step.Calls x k g (hosts (others g)) (same ∙ sym h.book))
 
     -- ---- it halts
 
-    pub halt_lead : l'.halted ≡ true → KeepsChannel l.stage l'.stage → OutOnly (IsWorking l) v.table w.table
+    pub halt_lead : l'.halted ≡ true → KeepsChannel l.stage l'.stage → ((o : Option End) → Tells v.records w.records c
+        l l' o)
+        → OutOnly (IsWorking l) v.table w.table
         → ((m : Manager K) → Stands v m → (x : Seat K) → slice_get m.seats c ≡ Some x → x.link ≡ l
         → Step signer m (with_seat c (halted_seat x l') w.table m)) → Leads signer v w
-    halt_lead halted keeps out step = at_link signer v w c l there reaches
+    halt_lead halted keeps told out step = at_link signer v w c l there reaches
       where
         now : (x : Seat K) → IsSound x → x.link ≡ l → (id : List ℕ) → IsWorking l id → IsStuck id (halted_seat x l')
         now x sound link id k =
@@ -225,25 +241,32 @@ module _ {K : Type 0} where
             → Reaches signer w m
         reaches m h x at link =
             let x_in = is_among m.seats c x at in
+            let tells : Tells v.records w.records c x.link l' x.end = subst (λ z. Tells v.records w.records c z l'
+            x.end) (sym link) (told x.end) in
             moved signer v w m h c x (halted_seat x l') at (step m h x at link)
             (links ∙ ap (slice_set v.links c) (sym (halted_link l' halted)))
             (halted_faithful x l' (h.faithful x x_in)
             (subst (λ (z : State K). KeepsChannel z.stage l'.stage) (sym link) keeps))
             (λ id its. ap (number_at id) numbers ∙ h.numbered c x at id (halted_number x l' id its))
             (λ i z found apart. subst (λ ns. HasNumber ns i z) (sym numbers) (h.numbered i z found))
+            (halted_recorded v.records w.records c x l' tells (its_record m h x at) halted) tells.beside
             (halted_stuck x l')
             (out_wide (IsWorking l) (λ id. IsStuck id (halted_seat x l')) v.table w.table
             (now x (h.sound x x_in) link) out)
 
     -- and nothing by which a payment is read is heard
-    pub halts_lead : l'.halted ≡ true → KeepsChannel l.stage l'.stage → OutOnly (IsWorking l) v.table w.table
-        → w.table.htlcs ≡ v.table.htlcs → Leads signer v w
-    halts_lead halted keeps out same = halt_lead halted keeps out (λ m h x at link.
+    pub halts_lead : l'.halted ≡ true → KeepsChannel l.stage l'.stage → ((o : Option End) → Tells v.records w.records c
+        l l' o)
+        → OutOnly (IsWorking l) v.table w.table → w.table.htlcs ≡ v.table.htlcs → Leads signer v w
+    halts_lead halted keeps told out same = halt_lead halted keeps told out (λ m h x at link.
         step.Halts x l' (seat_changes c x (halted_seat x l') w.table m at)
         (same ∙ ap (λ (t : Table). t.htlcs) (sym h.book)))
 
     -- the book stays
-    pub still_halts : l'.halted ≡ true → KeepsChannel l.stage l'.stage → w.table ≡ v.table → Leads signer v w
-    still_halts halted keeps same =
-        halts_lead halted keeps (out_same (IsWorking l) v.table w.table (ap (λ (t : Table). t.pending_commands) same))
+    pub still_halts : l'.halted ≡ true → KeepsChannel l.stage l'.stage → ((o : Option End) → Tells v.records w.records
+        c l l' o)
+        → w.table ≡ v.table → Leads signer v w
+    still_halts halted keeps told same =
+        halts_lead halted keeps told (out_same (IsWorking l) v.table w.table (ap (λ (t : Table). t.pending_commands)
+        same))
         (ap (λ (t : Table). t.htlcs) same)

@@ -15,7 +15,7 @@ use Rattle.ln_manager_channels.specs.declared.newest.Newest.{Newest}
 use Rattle.ln_manager_channels.specs.declared.saved.Saved.{Saved}
 use Rattle.ln_manager_channels.specs.Books.{Book, snapshots_of, with_kept}
 use Rattle.ln_manager_channels.specs.Calls.{Parts, Call, Makes, Make, Begins, IsOutcome, AreLoaded, no_parts, seats}
-use Rattle.ln_manager_channels.specs.Calls.{Running, Adds, Loses, OrSame, Hears}
+use Rattle.ln_manager_channels.specs.Calls.{Running, Adds, HasPlace, Loses, OrSame, Hears}
 use Rattle.ln_manager_channels.specs.Links.{end_in, is_up}
 use Rattle.ln_manager_channels.specs.Loading.{SeatsAll}
 use Rattle.ln_manager_channels.specs.Numbers.{NumbersById}
@@ -67,10 +67,11 @@ module _ {K : Type 0} where
 
 module _ {K : Type 0} (p q : Parts K) where
   pub adds_so : (l m : State K) → l ≡ m → (r : Result (Unit {0}) Refusal) → OnOk r (q.links ≡ p.links ++ l ∷ [])
-      → OnErr r (q.links ≡ p.links) → q.numbers ≡ p.numbers → q.book ≡ p.book → Adds m p q
-  adds_so l m same (Ok u) adds stay numbers book =
-      (inl (adds ∙ ap (λ (x : State K). p.links ++ x ∷ []) same), (numbers, book))
-  adds_so l m same (Err e) adds stay numbers book = (inr stay, (numbers, book))
+      → OnErr r (q.links ≡ p.links) → OnOk r (HasPlace p q) → OnErr r ((q.records ≡ p.records) ⊎ HasPlace p q)
+      → q.numbers ≡ p.numbers → q.book ≡ p.book → Adds m p q
+  adds_so l m same (Ok u) adds stay place most numbers book =
+      (inl (adds ∙ ap (λ (x : State K). p.links ++ x ∷ []) same, place), (numbers, book))
+  adds_so l m same (Err e) adds stay place most numbers book = (inr (stay, most), (numbers, book))
 
   pub loses_so : (c : ℕ) (r : Result (Unit {0}) Refusal)
       → OnOk r (q.links ≡ (if is_up (slice_get p.links c) then changed_at c drops p.links else p.links))
@@ -82,20 +83,21 @@ module _ {K : Type 0} (p q : Parts K) where
   loses_so c (Err e) links book halted same = inr (halted, same)
 
   pub or_same : {V : Type 0} (Done : V → Type 0) (r : Result V Refusal) → IfOk r Done → OnErr r (q.links ≡ p.links)
-      → OnErr r (q.book ≡ p.book) → q.numbers ≡ p.numbers → OrSame ((v : V) × Done v) p q
-  or_same Done (Ok v) done links book numbers = (inl (v, done), numbers)
-  or_same Done (Err e) done links book numbers = (inr (links, book), numbers)
+      → OnErr r (q.book ≡ p.book) → OnErr r (q.records ≡ p.records) → q.numbers ≡ p.numbers
+      → OrSame ((v : V) × Done v) p q
+  or_same Done (Ok v) done links book records numbers = (inl (v, done), numbers)
+  or_same Done (Err e) done links book records numbers = (inr (links, book, records), numbers)
 
   pub hears_so : {V : Type 0} (told : Book) (r : Result V Refusal) → OnOk r (q.book ≡ told)
-      → OnErr r (q.book ≡ p.book) → q.links ≡ p.links → q.numbers ≡ p.numbers → Hears told p q
-  hears_so told (Ok v) hears same links numbers = (inl hears, (links, numbers))
-  hears_so told (Err e) hears same links numbers = (inr same, (links, numbers))
+      → OnErr r (q.book ≡ p.book) → q.links ≡ p.links → q.numbers ≡ p.numbers → q.records ≡ p.records → Hears told p q
+  hears_so told (Ok v) hears same links numbers records = (inl hears, (links, numbers, records))
+  hears_so told (Err e) hears same links numbers records = (inr same, (links, numbers, records))
 
   pub follows_so : (policy : Policy) (used : Use) (r : Result (Unit {0}) Refusal)
       → OnOk r (q.book ≡ with_use policy used p.book)
       → OnErr r ((q.book ≡ p.book) ⊎ (q.book ≡ with_route policy used used.short_id p.book))
-      → q.links ≡ p.links → q.numbers ≡ p.numbers
+      → q.links ≡ p.links → q.numbers ≡ p.numbers → q.records ≡ p.records
       → Hears (with_use policy used p.book) p q ⊎ Hears (with_route policy used used.short_id p.book) p q
-  follows_so policy used (Ok u) follows routes links numbers = inl (inl follows, (links, numbers))
-  follows_so policy used (Err e) follows (inl same) links numbers = inl (inr same, (links, numbers))
-  follows_so policy used (Err e) follows (inr route) links numbers = inr (inl route, (links, numbers))
+  follows_so policy used (Ok u) follows routes links numbers records = inl (inl follows, (links, numbers, records))
+  follows_so policy used (Err e) follows (inl same) links numbers records = inl (inr same, (links, numbers, records))
+  follows_so policy used (Err e) follows (inr route) links numbers records = inr (inl route, (links, numbers, records))

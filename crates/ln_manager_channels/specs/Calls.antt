@@ -1,5 +1,5 @@
 -- The public calls of a node's channels, by what each of them leaves, and what has become of channels by them.
-use Rattle.std.specs.Prelude.{◌≡◌, ◌⊎◌, ℕ, List, [], ◌∷◌, ◌++◌, slice_get, if◌then◌else◌}
+use Rattle.std.specs.Prelude.{◌≡◌, ◌⊎◌, ℕ, List, [], ◌∷◌, ◌++◌, length, slice_get, if◌then◌else◌}
 use Rattle.ln_msgs.specs.declared.messages.message.Message as messages
 use Rattle.ln_keys.specs.Services.{Services}
 use Rattle.ln_keys.specs.Signer.{Signer}
@@ -25,7 +25,8 @@ use Rattle.ln_manager_channels.specs.Commands.{is_users}
 use Rattle.ln_manager_channels.specs.Events.{next_event, told_in}
 use Rattle.ln_manager_channels.specs.Links.{end_in, is_up, working_end, working_id}
 use Rattle.ln_manager_channels.specs.Loading.{Seats, SeatsAll, no_seats}
-use Rattle.ln_manager_channels.specs.Moves.{Answer, Connects, Known, ObeysUser, TakesMessage, with_funding}
+use Rattle.ln_manager_channels.specs.Moves.{Answer, Connects, Known, ObeysUser, TakesMessage, batched, with_funding}
+use Rattle.ln_manager_channels.specs.Moves.{with_place}
 use Rattle.ln_manager_channels.specs.Numbers.{NumbersById}
 use Rattle.ln_manager_channels.specs.Obeying.{Obeyed, ObeysBook}
 use Rattle.ln_manager_channels.specs.Obeying as obeying
@@ -74,17 +75,26 @@ pub data Call (K : Type 0) : Type 0 where
 
 -- ---- what stays
 
+abbrev pub LinksAndRecords : {K : Type 0} → Parts K → Parts K → Type 0
+LinksAndRecords p q = (q.numbers ≡ p.numbers) × (q.book ≡ p.book)
+
 abbrev pub LinksAlone : {K : Type 0} → Parts K → Parts K → Type 0
-LinksAlone p q = (q.numbers ≡ p.numbers) × (q.book ≡ p.book)
+LinksAlone p q = (q.numbers ≡ p.numbers) × (q.book ≡ p.book) × (q.records ≡ p.records)
 
 abbrev pub BookAlone : {K : Type 0} → Parts K → Parts K → Type 0
-BookAlone p q = (q.links ≡ p.links) × (q.numbers ≡ p.numbers)
+BookAlone p q = (q.links ≡ p.links) × (q.numbers ≡ p.numbers) × (q.records ≡ p.records)
 
--- ---- what it leaves; of its answer, and of records, what matters here
+-- ---- what it leaves; of its answer what matters here
+
+-- there is a place for the record of one more
+abbrev pub HasPlace : {K : Type 0} → Parts K → Parts K → Type 0
+HasPlace p q = q.records ≡ with_place (length p.links) p.records
 
 -- a link more; none for want of memory
 abbrev pub Adds : {K : Type 0} → State K → Parts K → Parts K → Type 0
-Adds l p q = ((q.links ≡ p.links ++ l ∷ []) ⊎ (q.links ≡ p.links)) × LinksAlone p q
+Adds l p q =
+    (((q.links ≡ p.links ++ l ∷ []) × HasPlace p q)
+    ⊎ ((q.links ≡ p.links) × ((q.records ≡ p.records) ⊎ HasPlace p q))) × LinksAndRecords p q
 
 -- a connection is lost, and the book hears what is kept; the link halts for want of memory
 abbrev pub Loses : {K : Type 0} → ℕ → Parts K → Parts K → Type 0
@@ -96,7 +106,8 @@ Loses c p q =
 
 -- done, or nothing has changed
 abbrev pub OrSame : {K : Type 0} → Type 0 → Parts K → Parts K → Type 0
-OrSame Done p q = (Done ⊎ ((q.links ≡ p.links) × (q.book ≡ p.book))) × (q.numbers ≡ p.numbers)
+OrSame Done p q =
+    (Done ⊎ ((q.links ≡ p.links) × (q.book ≡ p.book) × (q.records ≡ p.records))) × (q.numbers ≡ p.numbers)
 
 abbrev pub Hears : {K : Type 0} → Book → Parts K → Parts K → Type 0
 Hears told p q = ((q.book ≡ told) ⊎ (q.book ≡ p.book)) × BookAlone p q
@@ -104,18 +115,19 @@ Hears told p q = ((q.book ≡ told) ⊎ (q.book ≡ p.book)) × BookAlone p q
 abbrev pub Makes : {K : Type 0} → (K → Signer) → Call K → Parts K → Parts K → Type 0
 Makes signer (AddFunder keys spec) p q = Adds (begun keys (stage.AwaitsAccept spec)) p q
 Makes signer (AddFundee keys config) p q = Adds (begun keys (stage.AwaitsOpen config)) p q
-Makes signer (NoteBatched c) p q = (q.links ≡ p.links) × LinksAlone p q
+Makes signer (NoteBatched c) p q =
+    (q.links ≡ p.links) × (q.records ≡ changed_at c batched p.records) × LinksAndRecords p q
 Makes signer (NameFunding c txid output) p q =
     (q.links ≡ changed_at c (with_funding txid output) p.links) × LinksAlone p q
 Makes signer (Connect c) p q =
     ((answer : Answer) × AnswersAt c (Connects signer) answer p.links q.links) × LinksAlone p q
-Makes signer (Disconnect c) p q = Loses c p q × (q.numbers ≡ p.numbers)
+Makes signer (Disconnect c) p q = Loses c p q × (q.numbers ≡ p.numbers) × (q.records ≡ p.records)
 Makes signer (Halt c) p q = (q.links ≡ changed_at c halts p.links) × LinksAlone p q
 Makes signer (Message c keys m) p q =
     ((answer : Answer) × TakesMessage signer c keys m answer (known p) (known q)) × (q.book ≡ p.book)
 Makes signer (Command c x) p q =
     ((answer : Answer) × ObeysUser signer (is_users x) c x answer p.links q.links p.records q.records)
-    × LinksAlone p q
+    × LinksAndRecords p q
 Makes signer (ObeyBook s c) p q = OrSame ((g : Given)
     × ObeysBook signer s c (working_id (slice_get p.links c)) g (obeyed p) (obeyed q)) p q
 Makes signer (Decide s c verdict) p q = OrSame ((r : Mark × Given)

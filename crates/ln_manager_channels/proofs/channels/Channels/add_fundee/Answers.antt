@@ -13,4 +13,5 @@ invariant_of-self g c =
     one_more signer (call.AddFundee c.args.keys c.args.config)
     (parts_of c.self.inside.began.told.start) p q c.self.invariant
     (adds_so p q c.fundee.result (begun c.args.keys (stage.AwaitsOpen c.args.config)) c.fundee.ensures c.add.result
-    c.add.ensures.adds c.add.ensures.adds_none_if_refused c.add.ensures.numbers_stay c.add.ensures.book_stays)
+    c.add.ensures.adds c.add.ensures.adds_none_if_refused c.add.ensures.makes_place c.add.ensures.makes_place_at_most
+    c.add.ensures.numbers_stay c.add.ensures.book_stays)

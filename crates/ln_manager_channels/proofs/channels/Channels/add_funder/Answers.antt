@@ -13,4 +13,5 @@ invariant_of-self g c =
     one_more signer (call.AddFunder c.args.keys c.args.spec)
     (parts_of c.self.inside.began.told.start) p q c.self.invariant
     (adds_so p q c.funder.result (begun c.args.keys (stage.AwaitsAccept c.args.spec)) c.funder.ensures c.add.result
-    c.add.ensures.adds c.add.ensures.adds_none_if_refused c.add.ensures.numbers_stay c.add.ensures.book_stays)
+    c.add.ensures.adds c.add.ensures.adds_none_if_refused c.add.ensures.makes_place c.add.ensures.makes_place_at_most
+    c.add.ensures.numbers_stay c.add.ensures.book_stays)

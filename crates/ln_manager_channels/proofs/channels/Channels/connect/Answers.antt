@@ -17,4 +17,4 @@ invariant_of-self g c =
     } in
     one_more signer (call.Connect c.args.channel)
     (parts_of c.self.inside.began.told.start) p q c.self.invariant
-    ((c.connect_at.result, c.connect_at.ensures), (refl, refl))
+    ((c.connect_at.result, c.connect_at.ensures), (refl, refl, refl))

@@ -18,7 +18,8 @@ returns-clause-enters_this_call g c =
     (or_same p q (λ v. Decides signer (g.O.Onion.services c.args.onion.now) c.args.channel
     (next_event (working_end (slice_get p.links c.args.channel))) c.args.verdict v (obeyed p) (obeyed q))
     c.decide.result c.decide.ensures.decides c.decide.ensures.links_stay_if_refused
-    c.decide.ensures.book_stays_if_refused c.decide.ensures.numbers_stay)
+    c.decide.ensures.book_stays_if_refused c.decide.ensures.records_stay_if_refused
+    c.decide.ensures.numbers_stay)
 
 pub invariant_of-self : goal.invariant_of-self
 invariant_of-self g c =
@@ -30,4 +31,5 @@ invariant_of-self g c =
     (or_same p q (λ v. Decides signer (g.O.Onion.services c.args.onion.now) c.args.channel
     (next_event (working_end (slice_get p.links c.args.channel))) c.args.verdict v (obeyed p) (obeyed q))
     c.decide.result c.decide.ensures.decides c.decide.ensures.links_stay_if_refused
-    c.decide.ensures.book_stays_if_refused c.decide.ensures.numbers_stay)
+    c.decide.ensures.book_stays_if_refused c.decide.ensures.records_stay_if_refused
+    c.decide.ensures.numbers_stay)

@@ -14,4 +14,5 @@ invariant_of-self g c =
           c.disconnect.ensures.tells_what_is_kept c.disconnect.ensures.halts_if_refused
           c.disconnect.ensures.tells_nothing_if_refused,
       c.disconnect.ensures.numbers_stay,
+      c.disconnect.ensures.records_stay,
     )

@@ -23,4 +23,4 @@ invariant_of-self g c =
       preimage = c.args.preimage;
       expected = record { secret = c.args.secret; amount = c.args.amount };
     })) p.book)
-    c.expect.result c.expect.ensures.enters_the_invoice c.expect.ensures.changes_nothing_if_refused refl refl)
+    c.expect.result c.expect.ensures.enters_the_invoice c.expect.ensures.changes_nothing_if_refused refl refl refl)

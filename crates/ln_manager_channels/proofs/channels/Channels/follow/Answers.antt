@@ -18,4 +18,4 @@ invariant_of-self g c =
     one_more signer (call.Follow c.args.policy c.args.used)
     (parts_of c.self.inside.began.told.start) p q c.self.invariant
     (follows_so p q c.args.policy c.args.used c.follow.result c.follow.ensures.followed
-    c.follow.ensures.enters_the_route_at_most refl refl)
+    c.follow.ensures.enters_the_route_at_most refl refl refl)

@@ -17,4 +17,4 @@ invariant_of-self g c =
     (hears_so p q (with_heard (working_id (slice_get p.links c.args.channel))
     (told_in c.args.number (working_end (slice_get p.links c.args.channel))) p.book)
     c.hear.result c.hear.ensures.hears c.hear.ensures.changes_nothing_if_refused c.hear.ensures.links_stay
-    c.hear.ensures.numbers_stay)
+    c.hear.ensures.numbers_stay c.hear.ensures.records_stay)

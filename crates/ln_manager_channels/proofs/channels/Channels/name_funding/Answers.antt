@@ -17,4 +17,4 @@ invariant_of-self g c =
     } in
     one_more signer (call.NameFunding c.args.channel c.args.txid c.args.output)
     (parts_of c.self.inside.began.told.start) p q c.self.invariant
-    (c.name_at.ensures.names, (refl, refl))
+    (c.name_at.ensures.names, (refl, refl, refl))

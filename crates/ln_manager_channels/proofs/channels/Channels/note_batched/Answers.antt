@@ -17,4 +17,4 @@ invariant_of-self g c =
     } in
     one_more signer (call.NoteBatched c.args.channel)
     (parts_of c.self.inside.began.told.start) p q c.self.invariant
-    (refl, (refl, refl))
+    (refl, c.batch_at.ensures, (refl, refl))

@@ -17,7 +17,8 @@ returns-clause-enters_this_call g c =
     (or_same p q (λ v. ObeysBook signer (g.O.Onion.services c.args.onion.now) c.args.channel
     (working_id (slice_get p.links c.args.channel)) v (obeyed p) (obeyed q))
     c.obey_book.result c.obey_book.ensures.obeys c.obey_book.ensures.links_stay_if_refused
-    c.obey_book.ensures.book_stays_if_refused c.obey_book.ensures.numbers_stay)
+    c.obey_book.ensures.book_stays_if_refused c.obey_book.ensures.records_stay_if_refused
+    c.obey_book.ensures.numbers_stay)
 
 pub invariant_of-self : goal.invariant_of-self
 invariant_of-self g c =
@@ -29,4 +30,5 @@ invariant_of-self g c =
     (or_same p q (λ v. ObeysBook signer (g.O.Onion.services c.args.onion.now) c.args.channel
     (working_id (slice_get p.links c.args.channel)) v (obeyed p) (obeyed q))
     c.obey_book.result c.obey_book.ensures.obeys c.obey_book.ensures.links_stay_if_refused
-    c.obey_book.ensures.book_stays_if_refused c.obey_book.ensures.numbers_stay)
+    c.obey_book.ensures.book_stays_if_refused c.obey_book.ensures.records_stay_if_refused
+    c.obey_book.ensures.numbers_stay)

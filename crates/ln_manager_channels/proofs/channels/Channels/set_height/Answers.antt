@@ -17,4 +17,4 @@ invariant_of-self g c =
     } in
     one_more signer (call.SetHeight c.args.height)
     (parts_of c.self.inside.began.told.start) p q c.self.invariant
-    (inl c.set_height.ensures.enters_the_height, (refl, refl))
+    (inl c.set_height.ensures.enters_the_height, (refl, refl, refl))
