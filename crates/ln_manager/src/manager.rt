@@ -85,9 +85,15 @@ fn make_place<T: Drop>(places: &mut Vec<T>, channel: usize, value: T) -> Result<
 }
 
 impl<K: ChannelKeys + Drop, O: Onion + Drop> Manager<K, O> {
-    ghost use Rattle.std.specs.Prelude.{◌≡◌, true, false, Some, None, slice_get, IfOk, IfSome, IfNone, OnOk, OnErr};
-    ghost use Rattle.ln_batches.specs.Queues.{first_at, may_leave, handed, is_out, is_with_host, sent, closed, saved};
+    ghost use Rattle.std.specs.Prelude.{◌≡◌, true, false, Some, None, slice_get, Ok, Err, IfOk, IfErr, IfSome, IfNone};
+    ghost use Rattle.std.specs.Prelude.{OnOk, OnErr};
+    ghost use Rattle.ln_batches.specs.Queues as lines;
+    ghost use Rattle.ln_batches.specs.Queues.{first_at, may_leave, handed, is_out, sent, closed, saved, saved_events};
     ghost use Rattle.ln_batches.specs.Queues.{is_closed};
+    ghost use Rattle.ln_manager.specs.Events.{decided_in, event_for_host, is_for_host, is_with_host, marked_at};
+    ghost use Rattle.ln_manager.specs.Events.{may_decide};
+    ghost use Rattle.ln_manager.specs.Batches.{listed, record_of, records_of};
+    ghost use Rattle.ln_manager_channels.specs.Links.{end_in};
 
     // Over these channels.
     fn over(alloc: Global, onion: O, policy: Policy, channels: Channels<K>) -> Manager<K, O> {
@@ -202,14 +208,18 @@ impl<K: ChannelKeys + Drop, O: Onion + Drop> Manager<K, O> {
         channel: usize,
         txid: [u8; 32],
         output: u16,
-    ) -> Result<(), Refusal> {
+    ) -> Result<(), Refusal>
+        ensures marks_stay { self.new.is_out.items ≡ self.old.is_out.items }
+    {
         self.channels.name_funding(channel, txid, output)
     }
 
     // ---- what a link hands out
 
     // What the book commands may be due in the channel of this id.
-    fn list_due(&mut self, id: Option<ChannelId>) {
+    fn list_due(&mut self, id: Option<ChannelId>)
+        ensures marks_stay { self.new.is_out.items ≡ self.old.is_out.items }
+    {
         let Some(id) = id else {
             return;
         };
@@ -226,14 +236,18 @@ impl<K: ChannelKeys + Drop, O: Onion + Drop> Manager<K, O> {
         }
     }
 
-    fn note_use(&mut self, channel: usize, used: Use) {
+    fn note_use(&mut self, channel: usize, used: Use)
+        ensures marks_stay { self.new.is_out.items ≡ self.old.is_out.items }
+    {
         if let Some(told) = self.told_uses.get_mut(channel) {
             *told = Some(used);
         }
     }
 
     // The book hears which payments an end takes, where that is news. Error: 60 alone.
-    fn follow(&mut self, channel: usize) -> Result<(), Refusal> {
+    fn follow(&mut self, channel: usize) -> Result<(), Refusal>
+        ensures marks_stay { self.new.is_out.items ≡ self.old.is_out.items }
+    {
         let Some(used) = self.channels.use_of(channel) else {
             return Ok(());
         };
@@ -247,7 +261,9 @@ impl<K: ChannelKeys + Drop, O: Onion + Drop> Manager<K, O> {
 
     // A link halts, and what waits for its connection is lost. The book hears, where there is memory for it, that it
     // takes no payments.
-    fn halt(&mut self, channel: usize) {
+    fn halt(&mut self, channel: usize)
+        ensures marks_stay { self.new.is_out.items ≡ self.old.is_out.items }
+    {
         self.channels.halt(channel);
         self.lines.lose(channel);
         drop(self.follow(channel));
@@ -262,7 +278,9 @@ impl<K: ChannelKeys + Drop, O: Onion + Drop> Manager<K, O> {
     }
 
     // A record that has changed belongs to the open batch. Errors: 60, 46.
-    fn note_record(&mut self, channel: usize) -> Result<(), Refusal> {
+    fn note_record(&mut self, channel: usize) -> Result<(), Refusal>
+        ensures marks_stay { self.new.is_out.items ≡ self.old.is_out.items }
+    {
         if self.is_fresh(channel) {
             let events = event_count(self.channels.end(channel));
             self.lines.change(channel, events)?;
@@ -272,7 +290,9 @@ impl<K: ChannelKeys + Drop, O: Onion + Drop> Manager<K, O> {
     }
 
     // A message waits in the line of its channel, with what is blank in it as the link is now. Errors: 60, 46.
-    fn post(&mut self, alloc: Global, channel: usize, message: Message) -> Result<(), Refusal> {
+    fn post(&mut self, alloc: Global, channel: usize, message: Message) -> Result<(), Refusal>
+        ensures marks_stay { self.new.is_out.items ≡ self.old.is_out.items }
+    {
         let blank = match self.channels.machine(channel) {
             None => Ok(None),
             Some(machine) => blank_of(alloc, machine, &message),
@@ -287,18 +307,17 @@ impl<K: ChannelKeys + Drop, O: Onion + Drop> Manager<K, O> {
     }
 
     // The book hears an event of a channel, by which another one may be due. Error: 60 alone.
-    fn hear(&mut self, alloc: Global, channel: usize, number: u64) -> Result<(), Refusal> {
+    fn hear(&mut self, alloc: Global, channel: usize, number: u64) -> Result<(), Refusal>
+        ensures marks_stay { self.new.is_out.items ≡ self.old.is_out.items }
+    {
         let other = self.channels.hear(alloc, channel, number)?;
         self.list_due(other);
         Ok(())
     }
 
-    fn hand_on_one(
-        &mut self,
-        alloc: Global,
-        channel: usize,
-        output: Output,
-    ) -> Result<(), Refusal> {
+    fn hand_on_one(&mut self, alloc: Global, channel: usize, output: Output) -> Result<(), Refusal>
+        ensures marks_stay { self.new.is_out.items ≡ self.old.is_out.items }
+    {
         match output {
             Output::Send(message) => self.post(alloc, channel, message),
             Output::Event(number, event) => {
@@ -316,7 +335,9 @@ impl<K: ChannelKeys + Drop, O: Onion + Drop> Manager<K, O> {
         alloc: Global,
         channel: usize,
         outputs: Vec<Output>,
-    ) -> Result<(), Refusal> {
+    ) -> Result<(), Refusal>
+        ensures marks_stay { self.new.is_out.items ≡ self.old.is_out.items }
+    {
         for output in outputs {
             self.hand_on_one(alloc, channel, output)?;
         }
@@ -329,7 +350,9 @@ impl<K: ChannelKeys + Drop, O: Onion + Drop> Manager<K, O> {
         alloc: Global,
         channel: usize,
         outputs: Vec<Output>,
-    ) -> Result<(), Refusal> {
+    ) -> Result<(), Refusal>
+        ensures marks_stay { self.new.is_out.items ≡ self.old.is_out.items }
+    {
         if let Err(refusal) = self.note_record(channel) {
             drop(outputs);
             return Err(refusal);
@@ -342,12 +365,9 @@ impl<K: ChannelKeys + Drop, O: Onion + Drop> Manager<K, O> {
     }
 
     // After a call that a link has done: what it hands out is handed on, or else it halts.
-    fn after(
-        &mut self,
-        alloc: Global,
-        channel: usize,
-        outputs: Vec<Output>,
-    ) -> Result<(), Refusal> {
+    fn after(&mut self, alloc: Global, channel: usize, outputs: Vec<Output>) -> Result<(), Refusal>
+        ensures marks_stay { self.new.is_out.items ≡ self.old.is_out.items }
+    {
         match self.hand_on(alloc, channel, outputs) {
             Ok(()) => Ok(()),
             Err(refusal) => {
@@ -372,7 +392,9 @@ impl<K: ChannelKeys + Drop, O: Onion + Drop> Manager<K, O> {
         channel: usize,
         named: Option<ChannelId>,
         refusal: Refusal,
-    ) -> Result<(), Refusal> {
+    ) -> Result<(), Refusal>
+        ensures marks_stay { self.new.is_out.items ≡ self.old.is_out.items }
+    {
         let Some(id) = named else {
             return Ok(());
         };
@@ -394,7 +416,9 @@ impl<K: ChannelKeys + Drop, O: Onion + Drop> Manager<K, O> {
         channel: usize,
         named: Option<ChannelId>,
         refusal: Refusal,
-    ) -> Result<(), Refusal> {
+    ) -> Result<(), Refusal>
+        ensures marks_stay { self.new.is_out.items ≡ self.old.is_out.items }
+    {
         self.note_record(channel)?;
         self.reply(alloc, channel, named, refusal)?;
         self.follow(channel)?;
@@ -409,7 +433,9 @@ impl<K: ChannelKeys + Drop, O: Onion + Drop> Manager<K, O> {
         channel: usize,
         named: Option<ChannelId>,
         refusal: Refusal,
-    ) -> Refusal {
+    ) -> Refusal
+        ensures marks_stay { self.new.is_out.items ≡ self.old.is_out.items }
+    {
         if self.channels.has_halted(channel) {
             self.halt(channel);
             return refusal;
@@ -426,7 +452,9 @@ impl<K: ChannelKeys + Drop, O: Onion + Drop> Manager<K, O> {
     // ---- what the book commands
 
     // What became of a command of the book: true where a further one may be taken.
-    fn conclude(&mut self, alloc: Global, channel: usize, given: Given) -> bool {
+    fn conclude(&mut self, alloc: Global, channel: usize, given: Given) -> bool
+        ensures marks_stay { self.new.is_out.items ≡ self.old.is_out.items }
+    {
         match given {
             Given::Nothing => false,
             Given::Waits => false,
@@ -443,7 +471,9 @@ impl<K: ChannelKeys + Drop, O: Onion + Drop> Manager<K, O> {
     }
 
     /// What the book commands is done, until nothing is due; what lacks memory is left, and due in the next call.
-    pub fn go_on(&mut self, alloc: Global) {
+    pub fn go_on(&mut self, alloc: Global)
+        ensures marks_stay { self.new.is_out.items ≡ self.old.is_out.items }
+    {
         for _ in 0..u64::MAX {
             let Some(channel) = self.due.first() else {
                 return;
@@ -461,7 +491,9 @@ impl<K: ChannelKeys + Drop, O: Onion + Drop> Manager<K, O> {
 
     /// Each channel has its turn again: after a load, what its book commands may have waited for onions. What lacks
     /// memory is left, and due in the next call.
-    pub fn turn_all(&mut self, alloc: Global) {
+    pub fn turn_all(&mut self, alloc: Global)
+        ensures marks_stay { self.new.is_out.items ≡ self.old.is_out.items }
+    {
         for channel in 0..self.channels.len() {
             self.due.list(channel);
         }
@@ -477,7 +509,9 @@ impl<K: ChannelKeys + Drop, O: Onion + Drop> Manager<K, O> {
         channel: usize,
         named: Option<ChannelId>,
         answer: Result<Vec<Output>, Refusal>,
-    ) -> Result<(), Refusal> {
+    ) -> Result<(), Refusal>
+        ensures marks_stay { self.new.is_out.items ≡ self.old.is_out.items }
+    {
         let done = match answer {
             Ok(outputs) => self.after(alloc, channel, outputs),
             Err(refusal) => Err(self.refused(alloc, channel, named, refusal)),
@@ -488,14 +522,18 @@ impl<K: ChannelKeys + Drop, O: Onion + Drop> Manager<K, O> {
 
     /// There is a connection to the peer of a channel: `Link::connect`. Errors: 40 where there is no such channel;
     /// those of that call.
-    pub fn connect(&mut self, alloc: Global, channel: usize) -> Result<(), Refusal> {
+    pub fn connect(&mut self, alloc: Global, channel: usize) -> Result<(), Refusal>
+        ensures marks_stay { self.new.is_out.items ≡ self.old.is_out.items }
+    {
         let answer = self.channels.connect(alloc, channel);
         self.finish(alloc, channel, None, answer)
     }
 
     /// The connection of a channel is lost, and with it the messages that wait. Nothing happens where there is none.
     /// Error: 60, by which the link halts.
-    pub fn disconnect(&mut self, alloc: Global, channel: usize) -> Result<(), Refusal> {
+    pub fn disconnect(&mut self, alloc: Global, channel: usize) -> Result<(), Refusal>
+        ensures marks_stay { self.new.is_out.items ≡ self.old.is_out.items }
+    {
         self.lines.lose(channel);
         match self.channels.disconnect(alloc, channel) {
             Ok(()) => self.finish(alloc, channel, None, Ok(Vec::new(alloc))),
@@ -513,7 +551,9 @@ impl<K: ChannelKeys + Drop, O: Onion + Drop> Manager<K, O> {
         channel: usize,
         keys: K,
         message: Message,
-    ) -> Result<(), Refusal> {
+    ) -> Result<(), Refusal>
+        ensures marks_stay { self.new.is_out.items ≡ self.old.is_out.items }
+    {
         let named = channel_of(&message);
         let answer = self.channels.message(alloc, channel, keys, message);
         self.finish(alloc, channel, named, answer)
@@ -528,7 +568,9 @@ impl<K: ChannelKeys + Drop, O: Onion + Drop> Manager<K, O> {
         alloc: Global,
         channel: usize,
         command: Command,
-    ) -> Result<u64, Refusal> {
+    ) -> Result<u64, Refusal>
+        ensures marks_stay { self.new.is_out.items ≡ self.old.is_out.items }
+    {
         let subject = self.channels.subject(channel, &command);
         let answer = self.channels.command(alloc, channel, command);
         match self.finish(alloc, channel, None, answer) {
@@ -538,7 +580,9 @@ impl<K: ChannelKeys + Drop, O: Onion + Drop> Manager<K, O> {
     }
 
     /// Each channel signs that owes a signature. What a channel refuses is left; one that lacks memory halts.
-    pub fn sign(&mut self, alloc: Global) {
+    pub fn sign(&mut self, alloc: Global)
+        ensures marks_stay { self.new.is_out.items ≡ self.old.is_out.items }
+    {
         for _ in 0..u64::MAX {
             let Some(channel) = self.unsigned.first() else {
                 return;
@@ -552,7 +596,7 @@ impl<K: ChannelKeys + Drop, O: Onion + Drop> Manager<K, O> {
 
     // Whether the first undecided event of a channel is with the host.
     fn is_out(&self, channel: usize) -> bool
-        ensures out { result ≡ true → slice_get self.now.is_out.items channel ≡ Some true }
+        ensures { result ≡ is_with_host channel self.now.is_out.items }
     {
         match self.is_out.get(channel) {
             None => false,
@@ -560,14 +604,20 @@ impl<K: ChannelKeys + Drop, O: Onion + Drop> Manager<K, O> {
         }
     }
 
-    fn set_out(&mut self, channel: usize, out: bool) {
+    fn set_out(&mut self, channel: usize, out: bool)
+        ensures marks { self.new.is_out.items ≡ marked_at channel out self.old.is_out.items }
+        ensures channels_stay { self.new.channels ≡ self.old.channels }
+        ensures lines_stay { self.new.lines ≡ self.old.lines }
+    {
         if let Some(is_out) = self.is_out.get_mut(channel) {
             *is_out = out;
         }
     }
 
     // The number of the first event that a channel hasn't decided.
-    fn decided(&self, channel: usize) -> u64 {
+    fn decided(&self, channel: usize) -> u64
+        ensures { result ≡ decided_in (end_in (slice_get self.now.channels.parts.links channel)) }
+    {
         match self.channels.end(channel) {
             None => 0,
             Some(end) => end.ledger().decided(),
@@ -576,18 +626,21 @@ impl<K: ChannelKeys + Drop, O: Onion + Drop> Manager<K, O> {
 
     // Whether the first undecided event of a channel, where it has one, is for the host: it is saved, and isn't with it
     // yet.
-    fn is_untold(&self, channel: usize) -> bool {
+    fn is_untold(&self, channel: usize) -> bool
+        ensures { result ≡ is_for_host (slice_get self.now.channels.parts.links channel)
+            (is_with_host channel self.now.is_out.items) (saved_events channel self.now.lines) }
+    {
         !self.channels.has_halted(channel)
             && !self.is_out(channel)
             && self.decided(channel) < self.lines.saved_events(channel)
     }
 
     // The first undecided event of a channel, where it is for the host. Error: 60 alone.
-    fn event_for_host(
-        &self,
-        alloc: Global,
-        channel: usize,
-    ) -> Result<Option<ChannelEvent>, Refusal> {
+    fn event_for_host(&self, alloc: Global, channel: usize) -> Result<Option<ChannelEvent>, Refusal>
+        ensures event { IfOk result (λ e. e ≡ event_for_host (slice_get self.now.channels.parts.links channel)
+            (is_with_host channel self.now.is_out.items) (saved_events channel self.now.lines)) }
+        ensures fails_for_memory_alone { IfErr result (λ r. r ≡ Refusal.Memory) }
+    {
         if self.is_untold(channel) {
             self.channels.first_event(alloc, channel)
         } else {
@@ -601,7 +654,20 @@ impl<K: ChannelKeys + Drop, O: Onion + Drop> Manager<K, O> {
     pub fn next_event(
         &mut self,
         alloc: Global,
-    ) -> Result<Option<(usize, u64, ChannelEvent)>, Refusal> {
+    ) -> Result<Option<(usize, u64, ChannelEvent)>, Refusal>
+        ensures gives_what_is_for_the_host { IfOk result (λ o. IfSome o (λ r. Some r.2
+            ≡ event_for_host (slice_get self.old.channels.parts.links r.0)
+            (is_with_host r.0 self.old.is_out.items) (saved_events r.0 self.old.lines))) }
+        ensures by_its_number { IfOk result (λ o. IfSome o (λ r. r.1
+            ≡ decided_in (end_in (slice_get self.old.channels.parts.links r.0)))) }
+        ensures marks_it { IfOk result (λ o. IfSome o (λ r. self.new.is_out.items
+            ≡ marked_at r.0 true self.old.is_out.items)) }
+        ensures or_nothing { IfOk result (λ o. IfNone o (self.new.is_out.items ≡ self.old.is_out.items)) }
+        ensures changes_nothing_if_refused { OnErr result (self.new.is_out.items ≡ self.old.is_out.items) }
+        ensures fails_for_memory_alone { IfErr result (λ r. r ≡ Refusal.Memory) }
+        ensures channels_stay { self.new.channels ≡ self.old.channels }
+        ensures lines_stay { self.new.lines ≡ self.old.lines }
+    {
         for _ in 0..u64::MAX {
             let Some(channel) = self.untold.first() else {
                 return Ok(None);
@@ -624,7 +690,9 @@ impl<K: ChannelKeys + Drop, O: Onion + Drop> Manager<K, O> {
         channel: usize,
         target: Option<ChannelId>,
         given: Given,
-    ) -> Result<(), Refusal> {
+    ) -> Result<(), Refusal>
+        ensures marks_stay { self.new.is_out.items ≡ self.old.is_out.items }
+    {
         let done = self.conclude(alloc, channel, given);
         self.list_due(target);
         self.due.list(channel);
@@ -634,7 +702,8 @@ impl<K: ChannelKeys + Drop, O: Onion + Drop> Manager<K, O> {
 
     // Whether the event of this number of a channel is with the host. Errors: 62, 40.
     fn may_decide(&self, channel: usize, event: u64) -> Result<(), Refusal>
-        ensures only_what_is_out { OnOk result (slice_get self.now.is_out.items channel ≡ Some true) }
+        ensures { result ≡ may_decide (slice_get self.now.channels.parts.links channel)
+            (is_with_host channel self.now.is_out.items) event }
     {
         if self.channels.has_halted(channel) {
             return Err(Refusal::Halted);
@@ -657,7 +726,14 @@ impl<K: ChannelKeys + Drop, O: Onion + Drop> Manager<K, O> {
         channel: usize,
         event: u64,
         verdict: Verdict,
-    ) -> Result<(), Refusal> {
+    ) -> Result<(), Refusal>
+        ensures only_what_is_with_the_host { OnOk result (may_decide (slice_get self.old.channels.parts.links channel)
+            (is_with_host channel self.old.is_out.items) event ≡ Ok tt) }
+        ensures refuses_others { IfErr (may_decide (slice_get self.old.channels.parts.links channel)
+            (is_with_host channel self.old.is_out.items) event) (λ r. (result ≡ Err r)
+            × (self.new.channels ≡ self.old.channels) × (self.new.is_out.items ≡ self.old.is_out.items)) }
+        ensures is_over { OnOk result (self.new.is_out.items ≡ marked_at channel false self.old.is_out.items) }
+    {
         self.may_decide(channel, event)?;
         let (mark, given) = self.channels.decide(alloc, &self.onion, channel, verdict)?;
         let target = target_of(&mark);
@@ -676,7 +752,9 @@ impl<K: ChannelKeys + Drop, O: Onion + Drop> Manager<K, O> {
         channel: usize,
         event: u64,
         verdict: Verdict,
-    ) -> Result<(), Refusal> {
+    ) -> Result<(), Refusal>
+        ensures marks_stay { self.new.is_out.items ≡ self.old.is_out.items }
+    {
         if self.channels.has_halted(channel) {
             return Err(Refusal::Halted);
         }
@@ -691,7 +769,9 @@ impl<K: ChannelKeys + Drop, O: Onion + Drop> Manager<K, O> {
     // ---- settings
 
     /// The block height from now on. Error: 40 above 400,000,000.
-    pub fn set_height(&mut self, height: u32) -> Result<(), Refusal> {
+    pub fn set_height(&mut self, height: u32) -> Result<(), Refusal>
+        ensures marks_stay { self.new.is_out.items ≡ self.old.is_out.items }
+    {
         self.channels.set_height(height)
     }
 
@@ -701,14 +781,19 @@ impl<K: ChannelKeys + Drop, O: Onion + Drop> Manager<K, O> {
         preimage: [u8; 32],
         secret: [u8; 32],
         amount: u64,
-    ) -> Result<(), Refusal> {
+    ) -> Result<(), Refusal>
+        ensures marks_stay { self.new.is_out.items ≡ self.old.is_out.items }
+    {
         self.channels.expect(preimage, secret, amount)
     }
 
     // ---- batches and messages
 
     // The record of a channel, to be saved. Error: 60 alone.
-    fn saved_record(&self, alloc: Global, channel: usize) -> Result<Option<SavedRecord>, Refusal> {
+    fn saved_record(&self, alloc: Global, channel: usize) -> Result<Option<SavedRecord>, Refusal>
+        ensures newest { IfOk result (λ o. listed o ≡ record_of self.now.channels.parts channel) }
+        ensures fails_for_memory_alone { IfErr result (λ r. r ≡ Refusal.Memory) }
+    {
         let Some(end) = self.channels.end(channel) else {
             return Ok(None);
         };
@@ -726,7 +811,11 @@ impl<K: ChannelKeys + Drop, O: Onion + Drop> Manager<K, O> {
     }
 
     // Those of the open batch. Error: 60 alone.
-    fn open_records(&self, alloc: Global) -> Result<Vec<SavedRecord>, Refusal> {
+    fn open_records(&self, alloc: Global) -> Result<Vec<SavedRecord>, Refusal>
+        ensures newest { IfOk result (λ v. v.items
+            ≡ records_of self.now.channels.parts self.now.lines.open_channels) }
+        ensures fails_for_memory_alone { IfErr result (λ r. r ≡ Refusal.Memory) }
+    {
         let mut records = Vec::new(alloc);
         for channel in self.lines.open_channels() {
             if let Some(record) = self.saved_record(alloc, *channel)? {
@@ -739,6 +828,10 @@ impl<K: ChannelKeys + Drop, O: Onion + Drop> Manager<K, O> {
     /// The open batch is closed: its host saves it in one transaction, and says so by `saved`. None where nothing has
     /// changed, or the batch before isn't saved. Errors: 60, 46; nothing has changed then.
     pub fn close_batch(&mut self, alloc: Global) -> Result<Option<Batch>, Refusal>
+        ensures has_the_newest_records { IfOk result (λ o. IfSome o (λ b. b.records.items
+            ≡ records_of self.old.channels.parts self.old.lines.open_channels)) }
+        ensures channels_stay { self.new.channels ≡ self.old.channels }
+        ensures marks_stay { self.new.is_out.items ≡ self.old.is_out.items }
         ensures closes { IfOk result (λ o. IfSome o (λ b. (self.new.lines ≡ closed self.old.lines)
             × (b.number ≡ self.new.lines.batches))) }
         ensures or_nothing { IfOk result (λ o. IfNone o (self.new.lines ≡ self.old.lines)) }
@@ -759,6 +852,7 @@ impl<K: ChannelKeys + Drop, O: Onion + Drop> Manager<K, O> {
 
     // The channels of the closed batch may have events for the host.
     fn list_untold(&mut self)
+        ensures marks_stay { self.new.is_out.items ≡ self.old.is_out.items }
         ensures lines_stay { self.new.lines ≡ self.old.lines }
     {
         for channel in self.lines.closed_channels() {
@@ -769,6 +863,7 @@ impl<K: ChannelKeys + Drop, O: Onion + Drop> Manager<K, O> {
     /// The closed batch is saved: what waited for it may leave. Errors: 40 where it isn't the one of this number, 60;
     /// nothing has changed then.
     pub fn saved(&mut self, alloc: Global, batch: u64) -> Result<(), Refusal>
+        ensures marks_stay { self.new.is_out.items ≡ self.old.is_out.items }
         ensures saved { OnOk result (self.new.lines ≡ saved self.old.lines) }
         ensures only_the_closed_one { OnOk result (is_closed batch self.old.lines ≡ true) }
         ensures changes_nothing_if_refused { OnErr result (self.new.lines ≡ self.old.lines) }
@@ -780,6 +875,7 @@ impl<K: ChannelKeys + Drop, O: Onion + Drop> Manager<K, O> {
     /// The channel whose first message is handed to the host next: its batch is saved. Error: 60 alone, and nothing has
     /// changed.
     pub fn next_message(&mut self) -> Result<Option<usize>, Refusal>
+        ensures marks_stay { self.new.is_out.items ≡ self.old.is_out.items }
         ensures hands_out_what_may_leave { IfOk result (λ o. IfSome o (λ c. (may_leave self.old.lines
             (first_at c self.old.lines) ≡ true) × (self.new.lines ≡ handed c self.old.lines))) }
         ensures hands_out_once { IfOk result (λ o. IfSome o (λ c. is_out c self.old.lines ≡ false)) }
@@ -795,14 +891,17 @@ impl<K: ChannelKeys + Drop, O: Onion + Drop> Manager<K, O> {
     }
 
     /// What is blank in the first message of a channel is filled, and the message comes again. Error: 60 alone.
-    pub fn fill(&mut self, channel: usize, filling: Filling) -> Result<(), Refusal> {
+    pub fn fill(&mut self, channel: usize, filling: Filling) -> Result<(), Refusal>
+        ensures marks_stay { self.new.is_out.items ≡ self.old.is_out.items }
+    {
         self.lines.fill(channel, filling)
     }
 
     /// The message of this number, which is with the host, has left. Errors: `Lines::send`.
     pub fn sent(&mut self, channel: usize, number: u64) -> Result<(), Refusal>
+        ensures marks_stay { self.new.is_out.items ≡ self.old.is_out.items }
         ensures has_left { OnOk result (self.new.lines ≡ sent channel self.old.lines) }
-        ensures only_what_may { OnOk result ((is_with_host channel number self.old.lines ≡ true)
+        ensures only_what_may { OnOk result ((lines.is_with_host channel number self.old.lines ≡ true)
             × (may_leave self.old.lines (first_at channel self.old.lines) ≡ true)) }
         ensures changes_nothing_if_refused { OnErr result (self.new.lines ≡ self.old.lines) }
     {

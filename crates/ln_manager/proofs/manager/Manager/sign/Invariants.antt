@@ -1,0 +1,6 @@
+use Rattle.std.proofs.Common.{◌≡◌}
+use Rattle.ln_manager.proofs.manager.Manager.sign.Given as goal
+
+-- the marks stay
+abbrev pub invariant-loop : goal.invariant-loop
+invariant-loop g l = l.self.is_out.items ≡ l.fn.self.is_out.items
