@@ -11,7 +11,7 @@ use std::sync::Wait;
 use std::thread::Threads;
 
 /// How many thousandths of a second an answer is waited for.
-const PATIENCE: u64 = 20_000;
+pub const PATIENCE: u64 = 20_000;
 
 /// How many answers a channel keeps.
 const KEPT: u64 = 256;
@@ -37,8 +37,8 @@ impl Wanted {
     }
 }
 
-// What is to be so, or 65.
-fn must(is: bool) -> Result<(), Refusal> {
+/// What is to be so, or 65.
+pub fn must(is: bool) -> Result<(), Refusal> {
     if is { Ok(()) } else { Err(Refusal::GaveUp) }
 }
 
@@ -116,6 +116,11 @@ where
     /// What is counted of an end under this name is at most so much.
     pub fn has_at_most(&self, end: End, name: &str, most: u64) -> Result<(), Refusal> {
         must(self.count(end, name)? <= most)
+    }
+
+    /// What is counted of an end under this name is so much now.
+    pub fn tells(&self, end: End, name: &str, wanted: u64) -> Result<(), Refusal> {
+        must(self.count(end, name)? == wanted)
     }
 
     /// A node has no answer to the order of this number of its channel.

@@ -1,31 +1,31 @@
 //! Nodes of the row begin, stop, and start again from their stores.
 
+use crate::ends::{ALL, B2, F0, end_of, keys_of, txid_of};
+use crate::faults::{Probe, RowRecords, RowTable, row_records, row_table};
 use crate::node::ToyNode;
-use crate::row::{Row, end_of, gauge_of};
+use crate::row::{Row, of_end};
 use ln_channel::{FitConfig, FitSpec};
 use ln_keys::{ToyKeys, ToyOnion};
 use ln_node::{Greeting, Node, Stored};
 use ln_refusals::Refusal;
-use ln_tests_ends::{
-    A0, B0, B1, C0, ENDS, End, FailingRecords, Gauge, Gauged, OpenProxy, Watch, loopback,
-    row_config,
-};
+use ln_tests_ends::{A0, B0, B1, C0, End, Gauge, OpenProxy, loopback, row_config};
 use ln_toy_channels::{POLICY, fit_spec};
 use std::alloc::Global;
 use std::mem;
 use std::net::{Net, TcpListener, TcpStream};
 use std::sync::atomic::Ordering;
-use std::sync::{Arc, Wait};
+use std::sync::{Arc, Mutex, Wait};
 use std::thread::Threads;
 
 // What a channel is made with by the end that listens.
 fn listening(
     alloc: Global,
     gauge: &Arc<Gauge>,
+    probe: &Arc<Probe>,
     accepted: u16,
-) -> Result<(FitConfig, FailingRecords, Watch), Refusal> {
-    let table = Watch::gauged(alloc, gauge)?;
-    let store = FailingRecords::gauged(alloc, gauge)?;
+) -> Result<(FitConfig, RowRecords, RowTable), Refusal> {
+    let table = row_table(alloc, gauge, probe)?;
+    let store = row_records(alloc, gauge, probe)?;
     let config = row_config(alloc, accepted)?;
     Ok((config, store, table))
 }
@@ -34,11 +34,12 @@ fn listening(
 fn connecting(
     alloc: Global,
     gauge: &Arc<Gauge>,
+    probe: &Arc<Probe>,
     end: End,
-) -> Result<(FitSpec, FailingRecords, Watch), Refusal> {
-    let table = Watch::gauged(alloc, gauge)?;
-    let store = FailingRecords::gauged(alloc, gauge)?;
-    let spec = fit_spec(alloc, end.txid())?;
+) -> Result<(FitSpec, RowRecords, RowTable), Refusal> {
+    let table = row_table(alloc, gauge, probe)?;
+    let store = row_records(alloc, gauge, probe)?;
+    let spec = fit_spec(alloc, txid_of(end))?;
     Ok((spec, store, table))
 }
 
@@ -47,12 +48,12 @@ fn stored(
     alloc: Global,
     end: End,
     gauges: &[Arc<Gauge>],
-    store: FailingRecords,
-) -> Result<Stored<ToyKeys, FailingRecords, Watch>, Refusal> {
-    let gauge = gauge_of(gauges, end)?;
-    let table = Watch::gauged(alloc, gauge)?;
+    probes: &[Arc<Probe>],
+    store: RowRecords,
+) -> Result<Stored<ToyKeys, RowRecords, RowTable>, Refusal> {
+    let table = row_table(alloc, of_end(gauges, end)?, of_end(probes, end)?)?;
     Ok(Stored {
-        keys: end.keys(),
+        keys: keys_of(end),
         store,
         table,
         address: (!end.connects).then_some(loopback()),
@@ -64,12 +65,13 @@ fn all_stored(
     alloc: Global,
     node: usize,
     gauges: &[Arc<Gauge>],
-    stores: Vec<FailingRecords>,
-) -> Result<Vec<Stored<ToyKeys, FailingRecords, Watch>>, Refusal> {
+    probes: &[Arc<Probe>],
+    stores: Vec<RowRecords>,
+) -> Result<Vec<Stored<ToyKeys, RowRecords, RowTable>>, Refusal> {
     let mut all = Vec::new(alloc);
     for (channel, store) in stores.into_iter().enumerate() {
         if let Some(end) = end_of(node, channel) {
-            all.push(stored(alloc, end, gauges, store)?)?;
+            all.push(stored(alloc, end, gauges, probes, store)?)?;
         }
     }
     Ok(all)
@@ -104,12 +106,13 @@ where
 
     // The channel of an end that listens begins, and a proxy that leads there.
     fn begin_at(&mut self, end: End, accepted: u16) -> Result<(), Refusal> {
-        let gauge = gauge_of(self.gauges.as_slice(), end)?;
+        let gauge = of_end(self.gauges.as_slice(), end)?;
+        let probe = of_end(self.probes.as_slice(), end)?;
         let Some(node) = self.nodes.get_mut(end.node) else {
             return Err(Refusal::NotReady);
         };
-        let (config, store, table) = listening(self.alloc, gauge, accepted)?;
-        let keys = end.keys();
+        let (config, store, table) = listening(self.alloc, gauge, probe, accepted)?;
+        let keys = keys_of(end);
         let at = node.listen(self.rt, self.alloc, keys, config, store, table, loopback())?;
         let proxy = OpenProxy::new(self.rt, self.alloc, at, &self.gate)?;
         self.proxies.push(proxy)?;
@@ -118,13 +121,14 @@ where
 
     // The channel of an end that connects begins.
     fn connect(&mut self, end: End) -> Result<(), Refusal> {
-        let gauge = gauge_of(self.gauges.as_slice(), end)?;
+        let gauge = of_end(self.gauges.as_slice(), end)?;
+        let probe = of_end(self.probes.as_slice(), end)?;
         let (Some(proxy), Some(node)) = (self.proxies.get(end.proxy), self.nodes.get_mut(end.node))
         else {
             return Err(Refusal::NotReady);
         };
-        let (spec, store, table) = connecting(self.alloc, gauge, end)?;
-        let keys = end.keys();
+        let (spec, store, table) = connecting(self.alloc, gauge, probe, end)?;
+        let keys = keys_of(end);
         node.connect(self.rt, self.alloc, keys, spec, store, table, proxy.begin)?;
         proxy.proxy.made.fetch_add(1, Ordering::SeqCst);
         Ok(())
@@ -134,8 +138,12 @@ where
     pub fn listen(&mut self, accepted: u16) -> Result<(), Refusal> {
         self.stop();
         self.gauges = Vec::new(self.alloc);
-        for _ in ENDS {
+        self.probes = Vec::new(self.alloc);
+        self.news = Mutex::new(Vec::new(self.alloc));
+        self.taken = Mutex::new(Vec::new(self.alloc));
+        for _ in ALL {
             self.gauges.push(Gauge::new(self.alloc)?)?;
+            self.probes.push(Probe::new(self.alloc)?)?;
         }
         for _ in 0..3 {
             self.begin()?;
@@ -148,6 +156,14 @@ where
     pub fn meet(&mut self) -> Result<(), Refusal> {
         self.connect(A0)?;
         self.connect(B1)
+    }
+
+    /// A fourth node listens, F: B opens a third channel with it, and it is confirmed.
+    pub fn fourth(&mut self) -> Result<(), Refusal> {
+        self.begin()?;
+        self.begin_at(F0, 30)?;
+        self.connect(B2)?;
+        self.confirm()
     }
 
     /// Stops the nodes that there are. What was counted stays.
@@ -168,7 +184,8 @@ where
         let greeting = self.greeting()?;
         let old = self.nodes.remove(node);
         let stores = old.into_stores(self.rt, self.alloc)?;
-        let stored = all_stored(self.alloc, node, self.gauges.as_slice(), stores)?;
+        let (gauges, probes) = (self.gauges.as_slice(), self.probes.as_slice());
+        let stored = all_stored(self.alloc, node, gauges, probes, stores)?;
         let mut new: ToyNode = Node::restore(
             self.rt, self.alloc, ToyOnion, POLICY, greeting, stored,
         )?;

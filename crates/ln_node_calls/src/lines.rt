@@ -1,9 +1,12 @@
 //! The lines, one by one.
 
 use crate::asking::Wanted;
+use crate::ends::ALL;
 use crate::node::{Driven, ToyNode};
 use crate::row::Row;
-use crate::words::{BAD, at, command, end, node, number, saying, side, signing, small};
+use crate::words::{
+    BAD, at, bytes, command, end, left, node, number, party, saying, side, signing, small,
+};
 use ln_channel::Command;
 use ln_refusals::Refusal;
 use ln_tests_ends::{A0, C0, End, FEE};
@@ -39,6 +42,15 @@ where
             "short" => self.pay(payer, payment, block, FEE - 1),
             _ => Err(BAD),
         }
+    }
+
+    // Who is paid waits for it.
+    fn sends(&self, words: &[&str]) -> Result<(), Refusal> {
+        let (payer, _) = party(at(words, 1))?;
+        let (payee, block) = party(at(words, 2))?;
+        let payment = number(at(words, 3))?;
+        self.expect(payee, payment)?;
+        self.pay(payer, payment, block, FEE)
     }
 
     fn asks_by(&self, words: &[&str]) -> Result<(), Refusal> {
@@ -89,11 +101,7 @@ where
     fn burns(&self, words: &[&str]) -> Result<(), Refusal> {
         let gauge = self.gauge(end(at(words, 1))?)?;
         let number = number(at(words, 2))?;
-        let leaves_new = match at(words, 3) {
-            "old" => 0,
-            "new" => 1,
-            _ => return Err(BAD),
-        };
+        let leaves_new = left(at(words, 3))?;
         gauge.leaves_new.store(leaves_new, Ordering::SeqCst);
         gauge.next_save.store(number, Ordering::SeqCst);
         Ok(())
@@ -116,6 +124,10 @@ where
                 Ok(())
             }
             "bury" => self.buries(end),
+            "fill" => self.fill(end),
+            "hook" => self.hook(end),
+            "skips" => self.passes(end),
+            "silent" => self.is_silent(end),
             _ => Err(BAD),
         }
     }
@@ -135,6 +147,12 @@ where
                 self.insist(end, Command::Fee(u32::from(rate)))
             }
             "shows" => self.wait_for(end, how),
+            "hears" => self.hears(end, how, 0),
+            "close" => self.close(end, bytes(self.alloc, how)?),
+            "stranger" => self.meets_stranger(end, bytes(self.alloc, how)?.as_slice()),
+            "took" => self.takes_script(end, how),
+            "spoil" => self.spoil(end, left(how)?),
+            "deny" => self.deny(end, number(how)?),
             _ => Err(BAD),
         }
     }
@@ -143,9 +161,12 @@ where
     fn does_so_much(&self, verb: &str, end: End, words: &[&str]) -> Result<(), Refusal> {
         match verb {
             "most" => self.has_at_most(end, at(words, 2), number(at(words, 3))?),
+            "tells" => self.tells(end, at(words, 2), number(at(words, 3))?),
+            "comes" => self.comes(end, at(words, 2), number(at(words, 3))?),
             "wait" => self.wait(end, at(words, 2), number(at(words, 3))?),
             "lose" => self.loses(words),
             "burn" => self.burns(words),
+            "hears" => self.hears(end, at(words, 2), number(at(words, 3))?),
             _ => Err(BAD),
         }
     }
@@ -175,6 +196,7 @@ where
     fn act_by_three(&self, words: &[&str]) -> Result<(), Refusal> {
         match at(words, 0) {
             "pay" => self.pays(words),
+            "send" => self.sends(words),
             "alone" => self.signs_alone_by(words),
             "payments" => self.asks_to_pay_all_by(words),
             verb @ ("summary" | "reconnect" | "lacks") => {
@@ -203,6 +225,7 @@ where
         match verb {
             "meet" => self.meet(),
             "confirm" => self.confirm(),
+            "fourth" => self.fourth(),
             "open" => {
                 self.meet()?;
                 self.confirm()
@@ -220,6 +243,7 @@ where
         match verb {
             "listen" => self.listen(small(word)?),
             "restart" => self.restart(node(word)?),
+            "lists" => self.lists(&ALL, node(word)?),
             "looks" => {
                 for _ in 0..number(word)? {
                     self.look();

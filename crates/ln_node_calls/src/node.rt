@@ -1,5 +1,7 @@
 //! A node of the row, as lines drive it.
 
+use crate::faults::{RowRecords, RowTable};
+use ln_bytes::Bytes;
 use ln_channel::Command;
 use ln_hooks::Verdict;
 use ln_keys::{ToyKeys, ToyOnion};
@@ -7,7 +9,7 @@ use ln_node::{
     Answer, ChannelSummary, Counters, HeldHtlc, Node, Notice, Signing, Ticket, Trace, offers,
 };
 use ln_refusals::Refusal;
-use ln_tests_ends::{AMOUNT, FailingRecords, NoHook, SECRET, Watch, preimage};
+use ln_tests_ends::{AMOUNT, NoHook, SECRET, preimage};
 use std::alloc::Global;
 use std::net::{Net, SocketAddr, TcpStream};
 use std::sync::Wait;
@@ -58,6 +60,20 @@ pub trait Driven {
     /// How many summaries of all channels tell.
     fn channels<R: Wait>(&self, rt: &R, alloc: Global) -> Result<usize, Refusal>;
 
+    /// The own balances that the summaries of all channels tell.
+    fn balances<R: Wait>(&self, rt: &R, alloc: Global) -> Result<Vec<u64>, Refusal>;
+
+    /// A hook is registered for a channel.
+    fn hook<R: Wait>(&self, rt: &R, channel: usize) -> bool;
+
+    /// A channel closes by this script.
+    fn close<R: Wait>(&self, rt: &R, channel: usize, script: Bytes) -> Result<(), Command>;
+
+    /// Orders a channel that is open so much that its relay is full, while its worker waits for the book: `sign`,
+    /// `forget` and `fee` in turn. Gives the first order's number, and how many were taken; none where a relay took
+    /// more than there is room for, or numbered them otherwise.
+    fn fill<R: Wait>(&self, rt: &R, channel: usize) -> Option<(u64, u64)>;
+
     fn counters(&self) -> &Counters;
 
     /// Whether the peer of a channel has greeted by an init that offers this feature.
@@ -68,8 +84,29 @@ pub trait Driven {
     fn set_signing_of(&self, channel: usize, signing: Signing) -> Result<(), Refusal>;
 }
 
+// More orders than a relay has room for, and its worker has taken while it waits.
+const MOST: u64 = 300;
+
+/// The order of this number among those that fill a relay. At an end that can't sign, and didn't open its channel, each
+/// kind is refused by a number of its own.
+pub fn turn(count: u64) -> Command {
+    match (count ^ (count >> 3)) % 3 {
+        0 => Command::Sign,
+        1 => Command::Forget(0),
+        _ => Command::Fee(300),
+    }
+}
+
+// The number of an order that was taken.
+fn number_of(asked: Result<Ticket, Command>) -> Option<u64> {
+    match asked {
+        Ok(ticket) => Some(ticket.number),
+        Err(_) => None,
+    }
+}
+
 /// A node with toy keys and a toy onion, whose saves are made to fail, and whose hooks say what they are told.
-pub type ToyNode = Node<ToyKeys, FailingRecords, ToyOnion, NoHook, Watch>;
+pub type ToyNode = Node<ToyKeys, RowRecords, ToyOnion, NoHook, RowTable>;
 
 impl Driven for ToyNode {
     fn order<R: Wait>(&self, rt: &R, channel: usize, command: Command) -> Result<(), Command> {
@@ -149,6 +186,36 @@ impl Driven for ToyNode {
 
     fn channels<R: Wait>(&self, rt: &R, alloc: Global) -> Result<usize, Refusal> {
         Ok(self.channels(rt, alloc)?.len())
+    }
+
+    fn balances<R: Wait>(&self, rt: &R, alloc: Global) -> Result<Vec<u64>, Refusal> {
+        let mut balances = Vec::new(alloc);
+        for told in self.channels(rt, alloc)?.as_slice() {
+            balances.push(told.own_balance)?;
+        }
+        Ok(balances)
+    }
+
+    fn hook<R: Wait>(&self, rt: &R, channel: usize) -> bool {
+        self.register_hook(rt, channel, NoHook).is_ok()
+    }
+
+    fn close<R: Wait>(&self, rt: &R, channel: usize, script: Bytes) -> Result<(), Command> {
+        self.close_channel(rt, channel, script)
+    }
+
+    fn fill<R: Wait>(&self, rt: &R, channel: usize) -> Option<(u64, u64)> {
+        let _held = self.book().lock(rt);
+        let mut first = 0;
+        for count in 0..MOST {
+            match number_of(self.ask(rt, channel, turn(count))) {
+                None => return Some((first, count)),
+                Some(number) if count == 0 => first = number,
+                Some(number) if number.wrapping_sub(first) != count => return None,
+                Some(_) => {}
+            }
+        }
+        None
     }
 
     fn counters(&self) -> &Counters {

@@ -1,15 +1,18 @@
-//! Three nodes in a row: A has a channel with B, and B one with C.
+//! Three nodes in a row: A has a channel with B, and B one with C. A fourth one, F, may come: B has its third channel
+//! with it.
 
-use crate::news::{count_notice, count_step};
+use crate::ends::{ALL, B2, NODES, end_of, short_id_of, txid_of};
+use crate::faults::Probe;
+use crate::news::{News, Taken, count_notice, count_step, keep_shutdown};
 use crate::node::Driven;
 use ln_bytes::Bytes;
 use ln_channel::Command;
 use ln_hooks::Verdict;
 use ln_msgs::channel_id;
-use ln_node::{Signing, Ticket};
+use ln_node::{Notice, Signing, Step, Ticket, Trace};
 use ln_refusals::Refusal;
 use ln_tests_ends::{
-    A0, B0, B1, C0, ENDS, End, Gauge, OpenProxy, counted, is_refused, order, state_word, value_of,
+    A0, B1, End, Gauge, OpenProxy, counted, is_refused, order, state_word, value_of,
 };
 use std::alloc::{AllocError, Global};
 use std::net::{Net, TcpListener, TcpStream};
@@ -19,9 +22,9 @@ use std::thread::Threads;
 use std::time::Duration;
 
 /// How often is looked whether what is waited for has come, until that is given up.
-const LOOKS: u64 = 40_000;
+pub const LOOKS: u64 = 40_000;
 
-/// Three nodes, the proxies between them, and the gauges of all ends. Nothing of each before `open`.
+/// Nodes in a row, the proxies between them, and the gauges and probes of all ends. Nothing of each before `listen`.
 #[derive(Drop)]
 pub struct Row<N: Drop, R: Drop> {
     pub rt: R,
@@ -29,6 +32,12 @@ pub struct Row<N: Drop, R: Drop> {
     pub nodes: Vec<N>,
     pub proxies: Vec<OpenProxy>,
     pub gauges: Vec<Arc<Gauge>>,
+    pub probes: Vec<Arc<Probe>>,
+    /// What ends have noted, and which `shutdown` they were handed, as it was traced.
+    pub news: Mutex<News>,
+    pub taken: Mutex<Vec<Taken>>,
+    /// The number of the last order that a line gave.
+    pub order: AtomicU64,
     /// No connection is lost as long as it is held.
     pub gate: Arc<Mutex<()>>,
     /// When all nodes sign.
@@ -39,22 +48,12 @@ pub struct Row<N: Drop, R: Drop> {
 
 fn let_go<T: Drop>(_value: T) {}
 
-/// The gauge of an end.
-pub fn gauge_of(gauges: &[Arc<Gauge>], end: End) -> Result<&Arc<Gauge>, Refusal> {
-    match gauges.get(end.number) {
-        Some(gauge) => Ok(gauge),
+/// What is kept for an end among what is kept for all.
+pub fn of_end<T>(all: &[T], end: End) -> Result<&T, Refusal> {
+    match all.get(end.number) {
+        Some(its) => Ok(its),
         None => Err(Refusal::NotReady),
     }
-}
-
-/// The end of a node that has this number there.
-pub fn end_of(node: usize, channel: usize) -> Option<End> {
-    for end in ENDS {
-        if end.node == node && end.channel == channel {
-            return Some(end);
-        }
-    }
-    None
 }
 
 impl<N, R> Row<N, R>
@@ -70,6 +69,10 @@ where
             nodes: Vec::new(alloc),
             proxies: Vec::new(alloc),
             gauges: Vec::new(alloc),
+            probes: Vec::new(alloc),
+            news: Mutex::new(Vec::new(alloc)),
+            taken: Mutex::new(Vec::new(alloc)),
+            order: AtomicU64::new(0),
             gate: Arc::new(alloc, Mutex::new(()))?,
             signing: Signing::WhenOrdered,
             wanted: 0,
@@ -78,7 +81,7 @@ where
 
     /// The gauge of an end. 40 where no nodes run.
     pub fn gauge(&self, end: End) -> Result<&Gauge, Refusal> {
-        let gauge = gauge_of(self.gauges.as_slice(), end)?;
+        let gauge = of_end(self.gauges.as_slice(), end)?;
         Ok(gauge)
     }
 
@@ -106,15 +109,15 @@ where
         }
     }
 
-    /// Both channels are confirmed, up to all ends taking payments. 65 where that doesn't come about.
+    /// The channels are confirmed, up to all ends taking payments. 65 where that doesn't come about.
     pub fn confirm(&self) -> Result<(), Refusal> {
         for look in 0..LOOKS {
             if self.are_all_usable() {
                 return Ok(());
             }
             if look % 16 == 0 {
-                for end in ENDS {
-                    self.send_order(end, Command::Confirm(end.short_id()));
+                for end in ALL {
+                    self.send_order(end, Command::Confirm(short_id_of(end)));
                 }
             }
             self.look();
@@ -140,10 +143,22 @@ where
         };
         for (channel, notice) in it.notices(&self.rt, self.alloc) {
             if let Some(end) = end_of(node, channel) {
-                if let Ok(gauge) = self.gauge(end) {
-                    count_notice(gauge, notice);
-                }
+                self.note(end, notice);
             }
+        }
+    }
+
+    fn note(&self, end: End, notice: Notice) {
+        if let Ok(gauge) = self.gauge(end) {
+            count_notice(gauge, notice);
+        }
+        let _ = self.news.lock(&self.rt).push((end.number, notice));
+    }
+
+    // The same of all nodes.
+    pub fn read_all_notices(&self) {
+        for node in 0..NODES {
+            self.read_notices(node);
         }
     }
 
@@ -152,21 +167,27 @@ where
         let Some(it) = self.nodes.get(node) else {
             return;
         };
-        let trace = it.traced(&self.rt, self.alloc);
-        for (channel, step) in trace.steps.as_slice() {
-            if let Some(end) = end_of(node, *channel) {
-                if let Ok(gauge) = self.gauge(end) {
-                    count_step(gauge, step);
-                }
-            }
+        let Trace { steps, lost } = it.traced(&self.rt, self.alloc);
+        for (channel, step) in steps {
+            self.follow_step(node, channel, step);
         }
-        if trace.lost > 0 {
+        if lost > 0 {
             if let Some(end) = end_of(node, 0) {
                 if let Ok(gauge) = self.gauge(end) {
                     gauge.at_loss();
                 }
             }
         }
+    }
+
+    fn follow_step(&self, node: usize, channel: usize, step: Step) {
+        let Some(end) = end_of(node, channel) else {
+            return;
+        };
+        if let Ok(gauge) = self.gauge(end) {
+            count_step(gauge, &step);
+        }
+        let _ = keep_shutdown(&mut *self.taken.lock(&self.rt), end.number, step);
     }
 
     /// So many steps of a node are kept from now on.
@@ -201,24 +222,25 @@ where
     pub fn look(&self) {
         self.mend(A0);
         self.mend(B1);
-        for node in 0..3 {
+        self.mend(B2);
+        for node in 0..NODES {
             self.read_notices(node);
             self.follow(node);
         }
-        for end in ENDS {
+        for end in ALL {
             self.urge(end);
         }
         self.pause();
     }
 
-    fn pause(&self) {
+    pub fn pause(&self) {
         let never = AtomicU64::new(0);
         never.park_timeout(&self.rt, 0, Duration::from_micros(500));
     }
 
     fn are_all_usable(&self) -> bool {
-        for end in ENDS {
-            if !self.is_usable(end) {
+        for end in ALL {
+            if self.proxy(end).is_ok() && !self.is_usable(end) {
                 return false;
             }
         }
@@ -227,7 +249,7 @@ where
 
     /// Whether an end takes payments.
     pub fn is_usable(&self, end: End) -> bool {
-        let id = channel_id(&end.txid(), 0);
+        let id = channel_id(&txid_of(end), 0);
         match self.node(end) {
             Ok(node) => node.is_usable(&self.rt, &id),
             Err(_) => false,
@@ -292,6 +314,11 @@ where
         match name {
             "usable" => Ok(u64::from(self.is_usable(end))),
             "held" => self.held(end),
+            "hooks" => Ok(
+                of_end(self.probes.as_slice(), end)?
+                    .hooks
+                    .load(Ordering::SeqCst),
+            ),
             "lost" => Ok(self.proxy(end)?.proxy.over.load(Ordering::SeqCst)),
             "signed" => Ok(
                 self.proxy(end)?
@@ -313,6 +340,18 @@ where
                 return Ok(());
             }
             self.look();
+        }
+        Err(Refusal::GaveUp)
+    }
+
+    /// The same, while no connection is made again and nobody is asked to sign: it comes about by itself.
+    pub fn comes(&self, end: End, name: &str, wanted: u64) -> Result<(), Refusal> {
+        for _ in 0..LOOKS {
+            if self.count(end, name)? == wanted {
+                return Ok(());
+            }
+            self.read_all_notices();
+            self.pause();
         }
         Err(Refusal::GaveUp)
     }
@@ -346,7 +385,10 @@ where
         let mut command = command;
         for _ in 0..LOOKS {
             match node.ask(&self.rt, end.channel, command) {
-                Ok(ticket) => return Ok(ticket),
+                Ok(ticket) => {
+                    self.order.store(ticket.number, Ordering::SeqCst);
+                    return Ok(ticket);
+                }
                 Err(back) => command = back,
             }
             self.pause();
@@ -385,7 +427,7 @@ where
 
     // The saves that are to fail are counted from now on.
     fn begin_saves(&self) {
-        for end in ENDS {
+        for end in ALL {
             if let Ok(gauge) = self.gauge(end) {
                 gauge.begin();
             }

@@ -1,5 +1,6 @@
 //! What the words of a line say.
 
+use crate::ends::{B2, F0};
 use ln_bytes::Bytes;
 use ln_channel::Command;
 use ln_hooks::FailureCode;
@@ -42,6 +43,8 @@ pub fn end(word: &str) -> Result<End, Refusal> {
         "B0" => Ok(B0),
         "B1" => Ok(B1),
         "C0" => Ok(C0),
+        "B2" => Ok(B2),
+        "F0" => Ok(F0),
         _ => Err(BAD),
     }
 }
@@ -55,12 +58,23 @@ pub fn side(word: &str) -> Result<(End, u8), Refusal> {
     }
 }
 
+/// The end of who pays or is paid, and the block of its channel.
+pub fn party(word: &str) -> Result<(End, u8), Refusal> {
+    match word {
+        "A" => Ok((A0, 1)),
+        "C" => Ok((C0, 2)),
+        "F" => Ok((F0, 3)),
+        _ => Err(BAD),
+    }
+}
+
 /// The number of a node.
 pub fn node(word: &str) -> Result<usize, Refusal> {
     match word {
         "A" => Ok(0),
         "B" => Ok(1),
         "C" => Ok(2),
+        "F" => Ok(3),
         _ => Err(BAD),
     }
 }
@@ -89,6 +103,23 @@ pub fn command(alloc: Global, word: &str) -> Result<Command, Refusal> {
         "shut" => Ok(Command::Shutdown(Bytes::empty(alloc))),
         "forget" => Ok(Command::Forget(0)),
         _ => Err(BAD),
+    }
+}
+
+/// What a save that fails leaves: 1 for the new record.
+pub fn left(word: &str) -> Result<u64, Refusal> {
+    match word {
+        "old" => Ok(0),
+        "new" => Ok(1),
+        _ => Err(BAD),
+    }
+}
+
+/// Bytes in hexadecimal.
+pub fn bytes(alloc: Global, word: &str) -> Result<Bytes, Refusal> {
+    match hex::decode(alloc, word) {
+        Ok(bytes) => Ok(Bytes::new(bytes)),
+        Err(_) => Err(BAD),
     }
 }
 
