@@ -6,7 +6,7 @@ ghost use Rattle.ln_batches.specs.Queues.{row_closed, rows_closed, row_saved, ro
 use crate::filled::FilledBy;
 use crate::row::{Row, Waiting};
 use ln_refusals::Refusal;
-use std::alloc::Global;
+use std::alloc::{AllocError, Global};
 use std::collections::VecDeque;
 use std::marker::Model;
 use std::mem;
@@ -73,12 +73,15 @@ impl<M: Drop> Lines<M> {
         }
     }
 
-    /// A line for the next channel, whose saved record tells of so many events. Error: 60 alone.
+    /// A line for the next channel, whose saved record tells of so many events, and room for it in each batch. Error:
+    /// 60 alone.
     pub fn add(&mut self, alloc: Global, events: u64) -> Result<(), Refusal>
         ensures added { OnOk result (self.new ≡ with_channel events self.old) }
         ensures changes_nothing_if_refused { OnErr result (self.new ≡ self.old) }
         ensures fails_for_memory_alone { IfErr result (λ r. r ≡ Refusal.Memory) }
     {
+        make_room(&mut self.open_channels, self.rows.len())?;
+        make_room(&mut self.closed_channels, self.rows.len())?;
         self.rows.push(Row {
             messages: VecDeque::new(alloc),
             is_out: false,
@@ -94,7 +97,8 @@ impl<M: Drop> Lines<M> {
     /// The record of a channel has changed, and tells of so many events: it belongs to the open batch. Nothing happens
     /// where there is no such channel.
     ///
-    /// Errors: 60, and 46 where 2^64 - 1 records have changed; nothing has changed then.
+    /// Errors: 46 where 2^64 - 1 records have changed; 60, for which no contract says that `add` has made room. Nothing
+    /// has changed then.
     pub fn change(&mut self, channel: usize, events: u64) -> Result<(), Refusal>
         ensures changed { OnOk result (self.new ≡ changed channel events self.old) }
         ensures changes_nothing_if_refused { OnErr result (self.new ≡ self.old) }
@@ -312,7 +316,7 @@ impl<M: Drop> Lines<M> {
     /// The open batch is closed: its number, from 1. Takes no memory.
     ///
     /// Errors: 40 where it can't be, 46 where 2^64 - 1 were; nothing has changed then.
-    pub fn close(&mut self, alloc: Global) -> Result<u64, Refusal>
+    pub fn close(&mut self) -> Result<u64, Refusal>
         ensures closed { IfOk result (λ b. (self.new ≡ closed self.old) × (b ≡ self.new.batches)) }
         ensures refuses_if_it_cannot { IsErrOf result Refusal.NotReady ↔ (can_close self.old ≡ false) }
         ensures changes_nothing_if_refused { OnErr result (self.new ≡ self.old) }
@@ -324,7 +328,7 @@ impl<M: Drop> Lines<M> {
             return Err(Refusal::NumbersSpent);
         }
         close_rows(&mut self.rows, self.open_channels.as_slice());
-        drop(mem::replace(&mut self.closed_channels, Vec::new(alloc)));
+        self.closed_channels.clear();
         mem::swap(&mut self.closed_channels, &mut self.open_channels);
         self.closed_records = self.records;
         self.batches += 1;
@@ -358,7 +362,7 @@ impl<M: Drop> Lines<M> {
     /// The closed batch is saved: what waited for it may leave.
     ///
     /// Errors: 40 where it isn't the one of this number, 60; nothing has changed then.
-    pub fn save(&mut self, alloc: Global, batch: u64) -> Result<(), Refusal>
+    pub fn save(&mut self, batch: u64) -> Result<(), Refusal>
         ensures saved { OnOk result (self.new ≡ saved self.old) }
         ensures only_the_closed_one { OnOk result (is_closed batch self.old ≡ true) }
         ensures changes_nothing_if_refused { OnErr result (self.new ≡ self.old) }
@@ -368,7 +372,7 @@ impl<M: Drop> Lines<M> {
         }
         self.list_delayed()?;
         save_rows(&mut self.rows, self.closed_channels.as_slice());
-        drop(mem::replace(&mut self.closed_channels, Vec::new(alloc)));
+        self.closed_channels.clear();
         self.saved_records = self.closed_records;
         Ok(())
     }
@@ -411,6 +415,14 @@ impl<M: Drop> Lines<M> {
         row.is_out = false;
         Ok(())
     }
+}
+
+// Room for each of so many channels, and one more.
+fn make_room(channels: &mut Vec<usize>, count: usize) -> Result<(), AllocError>
+    ensures channels_stay { channels.new.items ≡ channels.old.items }
+{
+    let missing = count.saturating_sub(channels.len());
+    channels.reserve(missing.saturating_add(1))
 }
 
 // The record of a channel stands in the closed batch.

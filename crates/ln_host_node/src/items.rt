@@ -318,7 +318,7 @@ impl HostNode {
 
     /// The batch of this number is saved, and synced: what waited for it may leave. Errors: 40 where it isn't the batch
     /// that the host has seen last, or was saved before; 60; nothing has changed then.
-    pub fn saved(&mut self, alloc: Global, batch: u64) -> Result<(), Refusal>
+    pub fn saved(&mut self, batch: u64) -> Result<(), Refusal>
         ensures only_what_the_host_has_seen { OnOk result ((self.old.closed ≡ None) × (self.old.written ≡ None)) }
         ensures saved { OnOk result (self.new.manager.lines ≡ saved self.old.manager.lines) }
         ensures only_the_closed_one { OnOk result (is_closed batch self.old.manager.lines ≡ true) }
@@ -327,7 +327,7 @@ impl HostNode {
         if self.closed.is_some() || self.written.is_some() {
             return Err(Refusal::NotReady);
         }
-        self.manager.saved(alloc, batch)?;
+        self.manager.saved(batch)?;
         forget_told(&mut self.seats, self.told.as_slice());
         self.told.clear();
         Ok(())

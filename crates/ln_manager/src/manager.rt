@@ -259,12 +259,14 @@ impl<K: ChannelKeys + Drop, O: Onion + Drop> Manager<K, O> {
         Ok(())
     }
 
-    // A link halts, and what waits for its connection is lost. The book hears, where there is memory for it, that it
-    // takes no payments.
+    // A link halts, and what waits for its connection is lost. Where its record has changed, that belongs to the open
+    // batch, since what the book has heard of it goes on in other channels. The book hears, where there is memory for
+    // it, that it takes no payments.
     fn halt(&mut self, channel: usize)
         ensures marks_stay { self.new.is_out.items ≡ self.old.is_out.items }
     {
         self.channels.halt(channel);
+        drop(self.note_record(channel));
         self.lines.lose(channel);
         drop(self.follow(channel));
     }
@@ -841,7 +843,7 @@ impl<K: ChannelKeys + Drop, O: Onion + Drop> Manager<K, O> {
             return Ok(None);
         }
         let records = self.open_records(alloc)?;
-        match self.lines.close(alloc) {
+        match self.lines.close() {
             Ok(number) => Ok(Some(Batch { number, records })),
             Err(refusal) => {
                 drop(records);
@@ -862,14 +864,14 @@ impl<K: ChannelKeys + Drop, O: Onion + Drop> Manager<K, O> {
 
     /// The closed batch is saved: what waited for it may leave. Errors: 40 where it isn't the one of this number, 60;
     /// nothing has changed then.
-    pub fn saved(&mut self, alloc: Global, batch: u64) -> Result<(), Refusal>
+    pub fn saved(&mut self, batch: u64) -> Result<(), Refusal>
         ensures marks_stay { self.new.is_out.items ≡ self.old.is_out.items }
         ensures saved { OnOk result (self.new.lines ≡ saved self.old.lines) }
         ensures only_the_closed_one { OnOk result (is_closed batch self.old.lines ≡ true) }
         ensures changes_nothing_if_refused { OnErr result (self.new.lines ≡ self.old.lines) }
     {
         self.list_untold();
-        self.lines.save(alloc, batch)
+        self.lines.save(batch)
     }
 
     /// The channel whose first message is handed to the host next: its batch is saved. Error: 60 alone, and nothing has

@@ -259,13 +259,13 @@ pub extern "C" fn lnl0_node_next(
 
 /// A batch is saved: `HostNode::saved`.
 #[unsafe(no_mangle)]
-pub extern "C" fn lnl0_node_saved(alloc: Global, node: &mut HeldNode, batch: u64) -> i32
+pub extern "C" fn lnl0_node_saved(node: &mut HeldNode, batch: u64) -> i32
     ensures held { IsNone node.old.value → result ≡ pos 83 }
 {
     if !node.is_there() {
         return HANDLE;
     }
-    code(node.get().saved(alloc, batch))
+    code(node.get().saved(batch))
 }
 
 /// What is blank in a message is filled: `HostNode::fill`.
