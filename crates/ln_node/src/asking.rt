@@ -6,7 +6,7 @@ use crate::answers::{Answer, AnswerRing, counted, notice_of, replied};
 use crate::node::Node;
 use crate::notices::Notices;
 use crate::signing::Signing;
-use crate::wakeup::Wakeup;
+use crate::wakeup::Bell;
 use ln_channel::Command;
 use ln_history::Past;
 use ln_keys::{ChannelKeys, Onion};
@@ -33,7 +33,7 @@ pub struct Ticket {
 pub(crate) struct OrderAnswers {
     kept: Mutex<AnswerRing>,
     // Sounds after each answer.
-    wakeup: Wakeup,
+    bell: Bell,
     // 1 where the worker signs unasked.
     signs: AtomicU64,
 }
@@ -43,7 +43,7 @@ impl OrderAnswers {
     pub(crate) fn new(signing: Signing) -> OrderAnswers {
         let answers = OrderAnswers {
             kept: Mutex::new(AnswerRing::new()),
-            wakeup: Wakeup::new(),
+            bell: Bell::new(),
             signs: AtomicU64::new(0),
         };
         answers.set_signing(signing);
@@ -72,7 +72,7 @@ impl OrderAnswers {
     // The next order is answered, as its link has replied so. Gives its number.
     fn reply<R: Wait>(&self, rt: &R, reply: Result<u64, Refusal>) -> u64 {
         let number = replied(reply, &mut *self.kept.lock(rt));
-        self.wakeup.ring();
+        self.bell.ring();
         number
     }
 
@@ -86,13 +86,13 @@ impl OrderAnswers {
     pub(crate) fn wait<R: Wait>(&self, rt: &R, number: u64, millis: u64) -> Answer {
         let mut left = millis;
         for _ in rt.forever() {
-            let sounds = self.wakeup.sounds();
+            let sounds = self.bell.sounds();
             let answer = self.take(rt, number);
             if answer != Answer::Pending || left == 0 {
                 return answer;
             }
-            self.wakeup.pause_since(rt, sounds);
-            if self.wakeup.sounds() == sounds {
+            self.bell.wait(rt, sounds);
+            if self.bell.sounds() == sounds {
                 left -= 1;
             }
         }

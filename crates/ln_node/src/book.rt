@@ -352,11 +352,7 @@ where
         self.notices.add(rt, self.number, Notice::Met);
     }
 
-    fn sounds(&self) -> u64 {
-        self.own.wakeup.sounds()
-    }
-
-    fn wait<R: Wait>(&self, rt: &R, sounds: u64, refused: u64) {
-        self.own.wakeup.wait(rt, sounds, refused);
+    fn wait<R: Wait>(&self, rt: &R, refused: u64) {
+        self.own.wakeup.wait(rt, refused);
     }
 }

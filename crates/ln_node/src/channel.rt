@@ -15,7 +15,6 @@ use crate::seat::{PatientSeat, WakingSeat};
 use crate::signing::Signing;
 use crate::socket::Socket;
 use crate::start::{Reading, Stores, start_dispatcher, start_reader, start_worker};
-use crate::wakeup::Wakeup;
 use crate::wakeups::ChannelWakeup;
 use ln_channel::Command;
 use ln_log::ChannelId;
@@ -26,7 +25,7 @@ use std::alloc::{AllocError, Global};
 use std::io::{Read, Write};
 use std::net::{Net, OpenListener, OpenStream, SocketAddr, TcpStream};
 use std::sync::{Arc, Mutex, Wait};
-use std::thread::{JoinHandle, Threads};
+use std::thread::{JoinHandle, Parker, Threads};
 
 /// How many items the relay of a worker holds.
 const ITEMS: usize = 256;
@@ -298,7 +297,7 @@ fn new_seats<H: Drop, W: Drop>(
                 seat: first,
                 channel: readers,
             },
-            wakeup: Wakeup::new(),
+            parker: Parker::new(),
         },
         orders: WakingSeat {
             seat: orders,

@@ -125,11 +125,10 @@ impl<W: Read + Write + OpenStream + Drop> Connections<W> {
         L: OpenListener<Stream = W>,
         R: Wait,
     {
-        let sounds = self.wakeup.sounds();
         match listener.accept() {
             Ok((stream, _)) => self.read_one(rt, alloc, stream, seat),
             Err(_) => {
-                self.wakeup.wait(rt, sounds, 0);
+                self.wakeup.wait(rt, 0);
                 seat
             }
         }
@@ -142,12 +141,11 @@ impl<W: Read + Write + OpenStream + Drop> Connections<W> {
         alloc: Global,
         seat: S,
     ) -> S {
-        let sounds = self.wakeup.sounds();
         match self.next(rt) {
             Some(stream) => self.read_one(rt, alloc, stream, seat),
             None => {
                 if !self.stops() {
-                    self.wakeup.wait(rt, sounds, 0);
+                    self.wakeup.wait(rt, 0);
                 }
                 seat
             }

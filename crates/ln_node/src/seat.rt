@@ -1,9 +1,10 @@
 //! Senders' seats that wake the receiver, or wait for it.
 
-use crate::wakeup::Wakeup;
 use crate::wakeups::ChannelWakeup;
 use ln_relay::Sends;
 use std::sync::{Arc, Wait};
+use std::thread::Parker;
+use std::time::Duration;
 
 /// A sender's seat that wakes the channel's worker after each item that it has put.
 #[derive(Drop)]
@@ -35,8 +36,8 @@ impl<T: Drop, S: Sends<T> + Drop> Sends<T> for WakingSeat<S> {
 pub(crate) struct PatientSeat<S: Drop> {
     /// The seat.
     pub(crate) seat: S,
-    /// It doesn't sound.
-    pub(crate) wakeup: Wakeup,
+    /// Where it waits; nobody ends that.
+    pub(crate) parker: Parker,
 }
 
 impl<T: Drop, S: Sends<T> + Drop> Sends<T> for PatientSeat<S> {
@@ -49,7 +50,7 @@ impl<T: Drop, S: Sends<T> + Drop> Sends<T> for PatientSeat<S> {
     fn send<R: Wait>(&mut self, rt: &R, item: T) -> Result<(), T> {
         let sent = self.seat.send(rt, item);
         if sent.is_err() {
-            self.wakeup.pause(rt);
+            self.parker.park_timeout(rt, Duration::from_millis(1));
         }
         sent
     }

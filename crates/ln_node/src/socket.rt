@@ -35,7 +35,9 @@ impl<W: Write + Drop> Write for Socket<W> {
 }
 
 impl<W: Write + OpenStream + Drop> Closes for Socket<W> {
-    fn close(&mut self) {
+    type Closed = ();
+
+    fn close(self) {
         let _ = self.stream.shutdown(Shutdown::Both);
     }
 }

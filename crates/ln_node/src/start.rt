@@ -35,7 +35,7 @@ pub(crate) trait Stores: End {
 fn store_of<E, W, I, T, B, A>(work: WorkerLoop<E, W, I, T, B, A>) -> E::Store
 where
     E: Stores + Drop,
-    W: Drop,
+    W: Closes + Drop,
     I: Drop,
     T: Drop,
     B: Drop,
@@ -98,6 +98,7 @@ where
     E: Stores + Drop + Send + 'static,
     E::Store: Drop + Send + 'static,
     W: Closes + Drop + Send + 'static,
+    W::Closed: Send + 'static,
     I: Receives<Item<W>> + Drop + Send + 'static,
     H: Drop + Send + 'static,
     T: Sends<Task<H>> + Drop + Send + 'static,

@@ -5,12 +5,14 @@ ghost use Rattle.ln_node.specs.Wakeup.{pause_of};
 
 use std::sync::Wait;
 use std::sync::atomic::{AtomicU64, Ordering};
+use std::thread::Parker;
 use std::time::Duration;
 
-/// A wake-up that threads wait for. One that looks at what it may have to do has to count the sounds first.
+/// A wake-up that one thread waits for. One that sounds while the thread is busy ends its next wait at once, so that
+/// none is slept over.
 #[derive(Drop)]
 pub(crate) struct Wakeup {
-    sounds: AtomicU64,
+    parker: Parker,
 }
 
 // For how many milliseconds a thread waits at most, after so many loads in a row that were refused.
@@ -30,6 +32,33 @@ impl Wakeup {
     /// A wake-up that hasn't sounded.
     pub(crate) fn new() -> Wakeup {
         Wakeup {
+            parker: Parker::new(),
+        }
+    }
+
+    /// Sounds.
+    pub(crate) fn ring(&self) {
+        self.parker.unpark();
+    }
+
+    /// Waits, where it hasn't sounded since the last wait: until it does, or a tenth of a second; after loads in a row
+    /// that were refused two thousandths of a second, and twice as long after each, up to a second.
+    pub(crate) fn wait<R: Wait>(&self, rt: &R, refused: u64) {
+        let pause = Duration::from_millis(pause_of(refused));
+        self.parker.park_timeout(rt, pause);
+    }
+}
+
+/// A bell that any number of threads wait for. One that looks for what it waits for has to count the sounds first.
+#[derive(Drop)]
+pub(crate) struct Bell {
+    sounds: AtomicU64,
+}
+
+impl Bell {
+    /// A bell that hasn't sounded.
+    pub(crate) fn new() -> Bell {
+        Bell {
             sounds: AtomicU64::new(0),
         }
     }
@@ -45,22 +74,9 @@ impl Wakeup {
         self.sounds.wake_all();
     }
 
-    /// Waits until it sounds, or a thousandth of a second.
-    pub(crate) fn pause<R: Wait>(&self, rt: &R) {
-        self.pause_since(rt, self.sounds());
-    }
-
-    /// The same, where it hasn't sounded since it had sounded so often.
-    pub(crate) fn pause_since<R: Wait>(&self, rt: &R, sounds: u64) {
+    /// Waits, where it hasn't sounded since it had sounded so often: until it does, or a thousandth of a second.
+    pub(crate) fn wait<R: Wait>(&self, rt: &R, sounds: u64) {
         let low = (sounds & 0xffff_ffff) as u32;
         self.sounds.park_timeout(rt, low, Duration::from_millis(1));
-    }
-
-    /// Waits, where it hasn't sounded since it had sounded so often: until it does, or a tenth of a second; after loads
-    /// in a row that were refused two thousandths of a second, and twice as long after each, up to a second.
-    pub(crate) fn wait<R: Wait>(&self, rt: &R, sounds: u64, refused: u64) {
-        let low = (sounds & 0xffff_ffff) as u32;
-        let pause = Duration::from_millis(pause_of(refused));
-        self.sounds.park_timeout(rt, low, pause);
     }
 }

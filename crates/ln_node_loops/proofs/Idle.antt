@@ -1,5 +1,5 @@
 -- Turns, by what was written.
-use Rattle.std.proofs.Common.{append-nil, ◌++◌, ◌∷◌, ◌≡◌, [], ℕ, List, Option, Some, None, Result, Ok, Err}
+use Rattle.std.proofs.Common.{append-nil, ◌++◌, ◌∷◌, ◌≡◌, [], ℕ, List, Result, Ok, Err}
 use Rattle.std.proofs.Common.{IfErr, OnOk, refl, sym, ap, ◌∙◌, inl, inr, true, false, subst}
 use Rattle.std.proofs.KnownBytes.{Appends-nil}
 use Rattle.ln_msgs.specs.declared.messages.message.Message.{Message}
@@ -15,13 +15,13 @@ use Rattle.ln_node_loops.specs.Reserved.{is_reserved}
 use Rattle.ln_node_loops.specs.Act.{Act, Handles, Connects}
 use Rattle.ln_node_loops.specs.Kind.{kind_of}
 use Rattle.ln_msgs.specs.Messages.Typed.{wire}
-use Rattle.ln_node_loops.specs.Connection.{Connection, Wrote}
+use Rattle.ln_node_loops.specs.Connection.{Latest, NoneYet, Open, Closed, Wrote}
 use Rattle.ln_node_loops.specs.Sent.{outputs_of, answer_of, sent, sent_for, pongs}
 use Rattle.ln_node_loops.specs.Turn.{IsTurn, IsObeyed, Serves, HearsOf, ObeysOrder, Writes, Goes, due, due_for}
 
 -- what goes out is what is written, and a failed write comes before what was answered
 pub goes-over : (ws : List Wire) (said written answer : Result (Unit {0}) Refusal)
-    (connection connection' : Option Connection)
+    (connection connection' : Latest)
     → Goes ws written connection connection' → IfErr written (λ e. answer ≡ Err e) → OnOk written (answer ≡ said)
     → Writes ws said answer connection connection'
 goes-over ws said (Ok u) answer connection connection' all failed same = inl (same, all)
@@ -29,7 +29,7 @@ goes-over ws said (Err e) answer connection connection' lost failed same = inr (
 
 -- the same, by the outputs and the answer that were taken apart
 pub goes-apart : (said : Result (List Output) Refusal) (outputs : List Output)
-    (answered written answer : Result (Unit {0}) Refusal) (connection connection' : Option Connection)
+    (answered written answer : Result (Unit {0}) Refusal) (connection connection' : Latest)
     → outputs ≡ outputs_of said
     → answered ≡ answer_of said → Goes (sent outputs) written connection connection'
     → IfErr written (λ e. answer ≡ Err e) → OnOk written (answer ≡ answered)
@@ -40,19 +40,20 @@ goes-apart said outputs answered written answer connection connection' out is go
     failed (subst (λ a. OnOk written (answer ≡ a)) is same)
 
 -- where nothing was refused before
-pub goes : (ws : List Wire) (written : Result (Unit {0}) Refusal) (connection connection' : Option Connection)
+pub goes : (ws : List Wire) (written : Result (Unit {0}) Refusal) (connection connection' : Latest)
     → Goes ws written connection connection' → Writes ws (Ok tt) written connection connection'
 goes ws (Ok u) connection connection' all = inl (refl, all)
 goes ws (Err e) connection connection' lost = inr (e, refl, lost)
 
-wrote-none : (connection : Option Connection) → Wrote connection connection []
-wrote-none None = refl
-wrote-none (Some l) = Appends-nil l.bytes
+wrote-none : (connection : Latest) → Wrote connection connection []
+wrote-none NoneYet = refl
+wrote-none (Open l) = Appends-nil l.bytes
+wrote-none Closed = refl
 
 module _ {S : Type 0} (acts : S → Act → Result (List Output) Refusal → S → Type 0) where
   -- a turn that hands out and writes nothing
   pub idles : (s : S) (i : Item Message) (outputs : List Output) (answer : Result (Unit {0}) Refusal) (s' : S)
-      (connection : Option Connection) → (outputs ≡ []) × (answer ≡ Ok tt) → Serves acts s i (Ok []) s'
+      (connection : Latest) → (outputs ≡ []) × (answer ≡ Ok tt) → Serves acts s i (Ok []) s'
       → due i (Ok []) ≡ []
       → IsTurn acts s i outputs answer s' connection connection
   idles s i outputs answer s' connection nothing serves quiet = record {
@@ -64,7 +65,7 @@ module _ {S : Type 0} (acts : S → Act → Result (List Output) Refusal → S �
 
   -- a connection
   pub joins : (s : S) (own_init : Message) (said : Result (List Output) Refusal) (outputs : List Output)
-      (answered written answer : Result (Unit {0}) Refusal) (s' : S) (connection connection' : Option Connection)
+      (answered written answer : Result (Unit {0}) Refusal) (s' : S) (connection connection' : Latest)
       → acts s Connects said s' → outputs ≡ outputs_of said → answered ≡ answer_of said
       → Goes (wire own_init ∷ sent outputs) written connection connection'
       → IfErr written (λ e. answer ≡ Err e) → OnOk written (answer ≡ answered)
@@ -82,7 +83,7 @@ module _ {S : Type 0} (acts : S → Act → Result (List Output) Refusal → S �
 
   -- a message of a connection
   pub passes : (s : S) (m : Message) (outputs : List Output) (answer : Result (Unit {0}) Refusal)
-      (connection : Option Connection) → kind_of m ≡ OfConnection → (outputs ≡ []) × (answer ≡ Ok tt)
+      (connection : Latest) → kind_of m ≡ OfConnection → (outputs ≡ []) × (answer ≡ Ok tt)
       → IsTurn acts s (item.Read m) outputs answer s connection connection
   passes s m outputs answer connection of nothing =
       idles s (item.Read m) outputs answer s connection nothing
@@ -90,7 +91,7 @@ module _ {S : Type 0} (acts : S → Act → Result (List Output) Refusal → S �
 
   -- a ping
   pub answers : (s : S) (m : Message) (n : ℕ) (outputs : List Output) (answer : Result (Unit {0}) Refusal)
-      (connection connection' : Option Connection) → kind_of m ≡ Ping n → outputs ≡ []
+      (connection connection' : Latest) → kind_of m ≡ Ping n → outputs ≡ []
       → Goes (pongs n) answer connection connection'
       → IsTurn acts s (item.Read m) outputs answer s connection connection'
   answers s m n outputs answer connection connection' of none out = record {
@@ -103,7 +104,7 @@ module _ {S : Type 0} (acts : S → Act → Result (List Output) Refusal → S �
 
   -- a message of a channel
   pub hands : (s : S) (m : Message) (id : List ℕ) (said : Result (List Output) Refusal) (outputs : List Output)
-      (answer : Result (Unit {0}) Refusal) (s' : S) (connection connection' : Option Connection)
+      (answer : Result (Unit {0}) Refusal) (s' : S) (connection connection' : Latest)
       → kind_of m ≡ OfChannel id
       → acts s (Handles m) said s' → outputs ≡ outputs_of said
       → Writes (sent_for id said) (answer_of said) answer connection connection'
@@ -117,7 +118,7 @@ module _ {S : Type 0} (acts : S → Act → Result (List Output) Refusal → S �
 
   -- what the peer tells of a failure
   pub learns : (s : S) (m : Message) (said : Result (List Output) Refusal) (outputs : List Output)
-      (answer : Result (Unit {0}) Refusal) (s' : S) (connection connection' : Option Connection) → kind_of m ≡ OfFailure
+      (answer : Result (Unit {0}) Refusal) (s' : S) (connection connection' : Latest) → kind_of m ≡ OfFailure
       → acts s (Handles m) said s' → outputs ≡ outputs_of said
       → Writes (sent (outputs_of said)) (answer_of said) answer connection connection'
       → IsTurn acts s (item.Read m) outputs answer s' connection connection'
@@ -130,7 +131,7 @@ module _ {S : Type 0} (acts : S → Act → Result (List Output) Refusal → S �
 
   -- an order that is passed over
   pub declines : (s : S) (c : Command) (outputs : List Output) (answer : Result (Unit {0}) Refusal)
-      (connection : Option Connection) → is_reserved c ≡ true
+      (connection : Latest) → is_reserved c ≡ true
       → (outputs ≡ []) × (answer ≡ Err refusal.NotReady)
       → IsTurn acts s (item.Order c) outputs answer s connection connection
   declines s c outputs answer connection of nothing = record {
@@ -142,7 +143,7 @@ module _ {S : Type 0} (acts : S → Act → Result (List Output) Refusal → S �
 
   -- and one that is obeyed
   pub obeys : (s : S) (c : Command) (outputs : List Output) (said written answer : Result (Unit {0}) Refusal) (s' : S)
-      (connection connection' : Option Connection) → is_reserved c ≡ false
+      (connection connection' : Latest) → is_reserved c ≡ false
       → IsObeyed acts s c outputs said written s' connection connection'
       → IfErr written (λ e. answer ≡ Err e) → OnOk written (answer ≡ said)
       → IsTurn acts s (item.Order c) outputs answer s' connection connection'
@@ -156,7 +157,7 @@ module _ {S : Type 0} (acts : S → Act → Result (List Output) Refusal → S �
 
 -- a message alone
 pub sends_only : (us ws : List Wire) (written : Result (Unit {0}) Refusal)
-    (connection connection' : Option Connection) → us ≡ ws
+    (connection connection' : Latest) → us ≡ ws
     → Goes (us ++ []) written connection connection' → Goes ws written connection connection'
 sends_only us ws written connection connection' same out =
     subst (λ l. Goes l written connection connection') (append-nil us ∙ same) out

@@ -13,7 +13,7 @@ use Rattle.ln_node_loops.specs.declared.item.Item.TheVariants as item
 use Rattle.ln_node_loops.specs.declared.worker.Phase.{Phase}
 use Rattle.ln_node_loops.specs.declared.worker.Phase.TheVariants.{Unconnected}
 use Rattle.ln_node_loops.specs.Act.{Act}
-use Rattle.ln_node_loops.specs.Connection.{Connection}
+use Rattle.ln_node_loops.specs.Connection.{Latest, NoneYet, Open, Closed, is_open, closed}
 use Rattle.ln_node_loops.specs.Phase.{PassesOver, Hears, begun, unless_over, kept_connection, is_over, is_lost}
 use Rattle.ln_node_loops.specs.Turns.{Turn, Serves, Passes, Obeys, Loads, StaysHalted, Rests, Stand, Step, Leads}
 use Rattle.ln_node_loops.specs.Turns.{OfBook, OfUser, OfWorker, News, IsCutOff, cuts_off, is_joined, JoinNone, is_load}
@@ -38,9 +38,18 @@ passed_cut peer item.Broken p p' is over = over ∙ is
 passed_cut peer (item.Order c) p p' is over = over.1 ∙ is
 passed_cut peer item.Stop p p' is over = over ∙ is
 
-cut_off : {S : Type 0} (s : Stand S) (p : Phase) (connection : Option Connection) → p ≡ Unconnected → s.phase ≡ p
+none_open : (connection : Latest) → is_open (closed connection) ≡ false
+none_open NoneYet = refl
+none_open (Open l) = refl
+none_open Closed = refl
+
+closed_off : (connection connection' : Latest) → connection' ≡ closed connection → is_open connection' ≡ false
+closed_off connection connection' is = ap is_open is ∙ none_open connection
+
+cut_off : {S : Type 0} (s : Stand S) (p : Phase) (connection : Latest) → p ≡ Unconnected → s.phase ≡ p
     → s.connection ≡ kept_connection s.phase connection → IsCutOff s
-cut_off s p connection is at left = (at ∙ is, left ∙ ap (λ q. kept_connection q connection) (at ∙ is))
+cut_off s p connection is at left =
+    (at ∙ is, closed_off connection s.connection (left ∙ ap (λ q. kept_connection q connection) (at ∙ is)))
 
 joins_first : {W : Type 0} (t : Turn W) (ts : List (Turn W)) → JoinNone (items_of (t ∷ ts))
     → JoinNone (items_of (t ∷ []))
@@ -76,7 +85,7 @@ module _ {S W : Type 0} (acts : S → Act → Result (List Output) Refusal → S
   is_cut s (Obeys by c os a w) s' cuts step =
       cut_off s' (unless_over (is_lost w || halted s'.end) s.phase) step.1
       (ap (λ b. unless_over (b || halted s'.end) s.phase) cuts) step.3.0 step.3.1
-  is_cut s (Loads es) s' cuts step = (step.3, step.4)
+  is_cut s (Loads es) s' cuts step = (step.3, closed_off s.connection s'.connection step.4)
   is_cut s (StaysHalted r) s' cuts step = absurd cc
   is_cut s (Rests allowed) s' cuts step = absurd cc
 
@@ -91,8 +100,8 @@ module _ {S W : Type 0} (acts : S → Act → Result (List Output) Refusal → S
   still_cut s (Obeys by c os a w) s' none is step =
       cut_off s' (unless_over (is_lost w || halted s'.end) s.phase) step.1
       (stays_over (is_lost w || halted s'.end) s.phase is.0) step.3.0 step.3.1
-  still_cut s (Loads es) s' none is step = (step.3, step.4)
-  still_cut s (StaysHalted r) s' none is step = (step.2 ∙ is.0, step.3 ∙ is.1)
+  still_cut s (Loads es) s' none is step = (step.3, closed_off s.connection s'.connection step.4)
+  still_cut s (StaysHalted r) s' none is step = (step.2 ∙ is.0, ap is_open step.3 ∙ is.1)
   still_cut s (Rests allowed) s' none is step = subst IsCutOff (sym step.1) is
 
 module _ {S W : Type 0} (acts : S → Act → Result (List Output) Refusal → S → Type 0) (halted : S → Bool)

@@ -12,7 +12,7 @@ use Rattle.ln_msgs.specs.Messages.Message.{Wire, wire_bytes}
 use Rattle.ln_msgs.specs.Messages.Typed.{wire}
 use Rattle.ln_channel.specs.declared.output.Output.{Output}
 use Rattle.ln_channel.specs.declared.output.Output.TheVariants as output
-use Rattle.ln_node_loops.specs.Connection.{Connection, Wrote, Broke, Delivers}
+use Rattle.ln_node_loops.specs.Connection.{Latest, Wrote, Broke, Delivers}
 use Rattle.ln_node_loops.specs.Sent.{frame_of, frames_of, sent}
 use Rattle.ln_node_loops.specs.Turn.{HasUnsendable, SendsNone, Goes}
 
@@ -86,7 +86,7 @@ none-of os i o r within is none =
 -- ---- what becomes of them
 
 pub delivered : (ws : List Wire) (bytes : List ℕ) (written : Result (Unit {0}) Refusal)
-    (connection connection' : Option Connection)
+    (connection connection' : Latest)
     → bytes ≡ frames_of ws → Delivers bytes written connection connection' → Goes ws written connection connection'
 delivered ws bytes (Ok u) connection connection' are all = subst (Wrote connection connection') are all
 delivered ws bytes (Err e) c c' are (io, some) = inr (io, subst (Broke c c') are some)

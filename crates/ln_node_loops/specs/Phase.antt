@@ -7,7 +7,7 @@ use Rattle.ln_msgs.specs.declared.messages.setup.Init.{Init}
 use Rattle.ln_refusals.specs.declared.refusal.Refusal.{Refusal}
 use Rattle.ln_refusals.specs.Refusal.{refusal_number}
 use Rattle.ln_node_loops.specs.Reserved.{is_reserved}
-use Rattle.ln_node_loops.specs.Connection.{Connection}
+use Rattle.ln_node_loops.specs.Connection.{Latest, closed}
 use Rattle.ln_node_loops.specs.Features.{Fits, Misfits}
 use Rattle.ln_node_loops.specs.declared.features.PeerFeatures.{PeerFeatures}
 use Rattle.ln_node_loops.specs.declared.item.Item.{Item}
@@ -102,8 +102,8 @@ is_over item.Stop answer = is_lost answer
 abbrev pub unless_over : Bool → Phase → Phase
 unless_over over p = if over then Unconnected else p
 
--- the connection that is left; there is none where it is cut off
-abbrev pub kept_connection : Phase → Option Connection → Option Connection
-kept_connection Unconnected connection = None
+-- the connection that is left; it is closed where it is cut off
+abbrev pub kept_connection : Phase → Latest → Latest
+kept_connection Unconnected connection = closed connection
 kept_connection AwaitsInit connection = connection
 kept_connection Open connection = connection

@@ -1,5 +1,5 @@
 -- One turn of a worker: what an item makes of an end of a channel, and what is written for it.
-use Rattle.std.specs.Prelude.{◌≡◌, ◌⊎◌, ◌<◌, List, [], ◌∷◌, length, Option, Result, Ok, Err, Bool, true, false}
+use Rattle.std.specs.Prelude.{◌≡◌, ◌⊎◌, ◌<◌, List, [], ◌∷◌, length, Result, Ok, Err, Bool, true, false}
 use Rattle.ln_msgs.specs.declared.messages.message.Message.{Message}
 use Rattle.ln_refusals.specs.declared.refusal.Refusal.{Refusal}
 use Rattle.ln_refusals.specs.declared.refusal.Refusal.TheVariants as refusal
@@ -14,7 +14,7 @@ use Rattle.ln_node_loops.specs.declared.item.Item.TheVariants as item
 use Rattle.ln_node_loops.specs.declared.kind.Kind.{Kind}
 use Rattle.ln_node_loops.specs.declared.kind.Kind.TheVariants.{OfConnection, Ping, OfFailure, OfChannel}
 use Rattle.ln_node_loops.specs.Kind.{kind_of}
-use Rattle.ln_node_loops.specs.Connection.{Connection, Wrote, Broke}
+use Rattle.ln_node_loops.specs.Connection.{Latest, Wrote, Broke}
 use Rattle.ln_node_loops.specs.Act.{Act, Handles, Obeys, Connects, Drops}
 use Rattle.ln_node_loops.specs.Sent.{frames_of, outputs_of, answer_of, sent, sent_for, pongs}
 
@@ -35,18 +35,17 @@ SendsNone ws r = (r ≡ refusal.Memory) ⊎ ((r ≡ refusal.TooLong) × HasUnsen
 
 -- Why not all of these messages were written, and what was: by 60 or 7 nothing, as they are gathered first; by 63 a
 -- prefix, as a call of the writer failed.
-abbrev pub Lost : List Wire → Refusal → Option Connection → Option Connection → Type 0
+abbrev pub Lost : List Wire → Refusal → Latest → Latest → Type 0
 Lost ws r before after =
     (SendsNone ws r × (after ≡ before)) ⊎ ((r ≡ refusal.Io) × Broke before after (frames_of ws))
 
 -- all of these messages were written, or not
-abbrev pub Goes : List Wire → Result (Unit {0}) Refusal → Option Connection → Option Connection → Type 0
+abbrev pub Goes : List Wire → Result (Unit {0}) Refusal → Latest → Latest → Type 0
 Goes ws (Ok u) before after = Wrote before after (frames_of ws)
 Goes ws (Err r) before after = Lost ws r before after
 
 -- all of the messages were written, and the turn answers so; or not, and it answers why
-abbrev pub Writes : List Wire → Result (Unit {0}) Refusal → Result (Unit {0}) Refusal → Option Connection
-    → Option Connection
+abbrev pub Writes : List Wire → Result (Unit {0}) Refusal → Result (Unit {0}) Refusal → Latest → Latest
     → Type 0
 Writes ws said answer before after =
     ((answer ≡ said) × Wrote before after (frames_of ws))
@@ -100,7 +99,7 @@ due item.Stop said = []
 module _ {S : Type 0} (acts : S → Act → Result (List Output) Refusal → S → Type 0) where
   -- an item makes this of an end, these outputs are handed out, all of them, and their messages are written
   pub record IsTurn (s : S) (i : Item Message) (outputs : List Output) (answer : Result (Unit {0}) Refusal) (s' : S)
-      (before after : Option Connection) : Type 0 where
+      (before after : Latest) : Type 0 where
     pub said : Result (List Output) Refusal
     pub serves : Serves acts s i said s'
     pub hands_out : outputs ≡ outputs_of said
@@ -108,7 +107,7 @@ module _ {S : Type 0} (acts : S → Act → Result (List Output) Refusal → S �
 
   -- A command of the book: the end obeys it and answers so, these outputs are handed out, and their messages go out so.
   pub record IsObeyed (s : S) (c : Command) (outputs : List Output) (answer written : Result (Unit {0}) Refusal)
-      (s' : S) (before after : Option Connection) : Type 0 where
+      (s' : S) (before after : Latest) : Type 0 where
     pub said : Result (List Output) Refusal
     pub obeys : acts s (Obeys c) said s'
     pub hands_out : outputs ≡ outputs_of said

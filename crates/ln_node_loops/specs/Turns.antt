@@ -29,7 +29,7 @@ use Rattle.ln_node_loops.specs.declared.worker.Phase.{Phase}
 use Rattle.ln_node_loops.specs.declared.worker.Phase.TheVariants.{Unconnected}
 use Rattle.ln_node_loops.specs.Act.{Act}
 use Rattle.ln_node_loops.specs.Act as act
-use Rattle.ln_node_loops.specs.Connection.{Connection}
+use Rattle.ln_node_loops.specs.Connection.{Latest, Open, is_open, closed}
 use Rattle.ln_node_loops.specs.Turn.{IsTurn, IsObeyed}
 use Rattle.ln_node_loops.specs.Phase.{is_served, PassesOver, begun, is_over, is_lost, unless_over, kept_connection}
 use Rattle.ln_node_loops.specs.Phase.{met_by}
@@ -95,15 +95,15 @@ greets g item.Broken = item.Broken
 greets g (item.Order c) = item.Order c
 greets g item.Stop = item.Stop
 
--- what a worker stands for: its end, how far its connection is, and what was written to that, where there is one
+-- what a worker stands for: its end, how far its connection is, and the latest one, with what was written to it
 pub record Stand (S : Type 0) : Type 0 where
   pub end : S
   pub phase : Phase
-  pub connection : Option Connection
+  pub connection : Latest
 
 -- what was written as an item comes
-abbrev pub joined_connection : {W : Type 0} → (W → Option (List ℕ)) → Option Connection → Item W → Option Connection
-joined_connection contents connection (item.Joined w) = Some (record { bytes = contents w; failed = 0 })
+abbrev pub joined_connection : {W : Type 0} → (W → Option (List ℕ)) → Latest → Item W → Latest
+joined_connection contents connection (item.Joined w) = Open (record { bytes = contents w; failed = 0 })
 joined_connection contents connection (item.Read m) = connection
 joined_connection contents connection item.Broken = connection
 joined_connection contents connection (item.Order c) = connection
@@ -111,7 +111,7 @@ joined_connection contents connection item.Stop = connection
 
 module _ {S : Type 0} (halted : S → Bool) where
   -- what is left of a connection after a turn
-  abbrev pub Leaves : Phase → Bool → Option Connection → Stand S → Type 0
+  abbrev pub Leaves : Phase → Bool → Latest → Stand S → Type 0
   Leaves p over connection s' =
       (s'.phase ≡ unless_over (over || halted s'.end) p) × (s'.connection ≡ kept_connection s'.phase connection)
 
@@ -121,11 +121,11 @@ module _ {S W : Type 0} (acts : S → Act → Result (List Output) Refusal → S
   -- An item is served or passed over, a command of the book, an order or the worker's own is obeyed, or a halted end
   -- comes back from its record, or can't. Or there was nothing to do: it rests where it isn't to sign by itself, or
   -- where no signature is owed.
-  -- Each turn appends to what the one before has left on the connection. A turn that couldn't write all cuts it off,
-  -- and then there is none, and nothing is written, until the next one joins.
+  -- Each turn appends to what the one before has left on the connection. A turn that couldn't write all cuts it off: it
+  -- is closed, and nothing is written until the next one joins.
   abbrev pub Step : Stand S → Turn W → Stand S → Type 0
   Step s (Serves i os a) s' =
-      (is_served s.phase i ≡ true) × (connection : Option Connection)
+      (is_served s.phase i ≡ true) × (connection : Latest)
       × IsTurn acts s.end (greets own_init i) os a s'.end (joined_connection contents
       (kept_connection s.phase s.connection) i) connection
       × Leaves halted (begun s.phase i) (is_over i a) connection s'
@@ -133,12 +133,12 @@ module _ {S W : Type 0} (acts : S → Act → Result (List Output) Refusal → S
       (is_served s.phase i ≡ false) × (s'.end ≡ s.end) × PassesOver peer s.phase i s'.phase
       × (s'.connection ≡ kept_connection s'.phase s.connection)
   Step s (Obeys by c os a w) s' =
-      MayGive owes s.end by c × (connection : Option Connection)
+      MayGive owes s.end by c × (connection : Latest)
       × IsObeyed acts s.end c os a w s'.end (kept_connection s.phase s.connection) connection
       × Leaves halted s.phase (is_lost w) connection s'
   Step s (Loads es) s' =
       (halted s.end ≡ true) × acts s.end act.Loads (Ok []) s'.end × (es ≡ pending s'.end) × (s'.phase ≡ Unconnected)
-      × (s'.connection ≡ None)
+      × (s'.connection ≡ closed s.connection)
   Step s (StaysHalted r) s' =
       (halted s.end ≡ true) × acts s.end act.Loads (Err r) s'.end × (s'.phase ≡ s.phase)
       × (s'.connection ≡ s.connection)
@@ -338,9 +338,9 @@ RemoveByBookAlone (Rests allowed ∷ ts) = RemoveByBookAlone ts
 
 -- ---- connections
 
--- there is none, and so nothing is written
+-- none is open, and so nothing is written
 abbrev pub IsCutOff : {S : Type 0} → Stand S → Type 0
-IsCutOff s = (s.phase ≡ Unconnected) × (s.connection ≡ None)
+IsCutOff s = (s.phase ≡ Unconnected) × (is_open s.connection ≡ false)
 
 -- whether it cuts the connection off, as it couldn't write all or as the end takes none or comes back
 abbrev pub cuts_off : {W : Type 0} → Turn W → Bool

@@ -4,8 +4,8 @@ use Rattle.ln_node_loops.specs.declared.worker.Worker.{Worker}
 use Rattle.ln_node_loops.specs.Turns.{Stand}
 use Rattle.ln_node_loops.specs.Wire.{connection_at}
 
-module _ {E W S : Type 0} (state : E → S) (contents : W → Option (List ℕ)) where
-  abbrev pub stand : Worker E W → Stand S
+module _ {E W C S : Type 0} (state : E → S) (contents : W → Option (List ℕ)) where
+  abbrev pub stand : Worker E W C → Stand S
   stand w = record {
     end = state w.end;
     phase = w.phase;

@@ -13,10 +13,10 @@ use Rattle.ln_node_loops.specs.Worker.{stand}
 abbrev pub refused_after : Bool → ℕ → ℕ
 refused_after halted before = if halted then (if nat_lt before 10 then before + 1 else before) else 0
 
-module _ {E W I T B A S H : Type 0} (state : E → S) (contents : W → Option (List ℕ)) (taken : I → List (Item W))
+module _ {E W I T B A C S H : Type 0} (state : E → S) (contents : W → Option (List ℕ)) (taken : I → List (Item W))
     (put : T → List (Task H)) (said : B → List Saying) (noted : B → List Noted) (replied : A → List Reply)
     (allowed : A → List Bool) where
-  abbrev pub loop_state : WorkerLoop E W I T B A → LoopState S W H
+  abbrev pub loop_state : WorkerLoop E W I T B A C → LoopState S W H
   loop_state b = record {
     stand = stand state contents b.worker;
     last = b.worker.last;

@@ -101,10 +101,7 @@ pub trait ReadsEnds<E: End>: Books {
         ensures notes_it { Self.noted self.new ≡ Self.noted self.old ++ Meets init ∷ [] }
         ensures says_nothing { Self.said self.new ≡ Self.said self.old };
 
-    /// How often the wake-up has sounded.
-    fn sounds(&self) -> u64;
-
-    /// Waits, where the wake-up hasn't sounded since it had sounded so often: until it does, or a while. After so many
-    /// loads in a row that were refused the while is the longer, the more they are.
-    fn wait<R: Wait>(&self, rt: &R, sounds: u64, refused: u64);
+    /// Waits, where the wake-up hasn't sounded since the last wait: until it does, or a while. After so many loads in a
+    /// row that were refused the while is the longer, the more they are.
+    fn wait<R: Wait>(&self, rt: &R, refused: u64);
 }

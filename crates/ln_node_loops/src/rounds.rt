@@ -36,7 +36,7 @@ use std::sync::Wait;
 /// A worker with its seats: it takes from the first, puts events to the second, talks to the book by the third, and by
 /// the fourth replies to orders and learns whether it is to sign by itself.
 #[derive(Drop)]
-pub struct WorkerLoop<E: Drop, W: Drop, I: Drop, T: Drop, B: Drop, A: Drop> {
+pub struct WorkerLoop<E: Drop, W: Closes + Drop, I: Drop, T: Drop, B: Drop, A: Drop> {
     /// The worker.
     pub worker: Worker<E, W>,
     /// The receiver's seat of its relay.
@@ -304,7 +304,7 @@ fn meet<E: End, B: ReadsEnds<E>, R: Wait>(rt: &R, book: &mut B, met: Option<Mess
 }
 
 // Tells what has become of the end and its connection, where it hadn't halted before or awaited the peer's init.
-fn note<E: End + Drop, W: Drop, B: ReadsEnds<E>, R: Wait>(
+fn note<E: End + Drop, W: Closes + Drop, B: ReadsEnds<E>, R: Wait>(
     rt: &R,
     book: &mut B,
     worker: &Worker<E, W>,
@@ -324,7 +324,7 @@ fn note<E: End + Drop, W: Drop, B: ReadsEnds<E>, R: Wait>(
 }
 
 // Tells what has become of the end by a command of the book; nothing where the command waits.
-fn note_command<E: End + Drop, W: Drop, B: ReadsEnds<E>, R: Wait>(
+fn note_command<E: End + Drop, W: Closes + Drop, B: ReadsEnds<E>, R: Wait>(
     rt: &R,
     book: &mut B,
     worker: &Worker<E, W>,
@@ -422,9 +422,9 @@ where
     }
 
     // Waits where there was nothing to do; else it goes on at once.
-    fn wait<R: Wait>(&self, rt: &R, sounds: u64, refused: u64, busy: bool) {
+    fn wait<R: Wait>(&self, rt: &R, refused: u64, busy: bool) {
         if !busy {
-            self.book.wait(rt, sounds, refused);
+            self.book.wait(rt, refused);
         }
     }
 
@@ -694,7 +694,6 @@ where
     work.worker.last = put_events(rt, &mut work.tasks, &work.worker.end, last, told);
     let mut refused = 0u64;
     for _ in rt.forever() {
-        let sounds = work.book.sounds();
         let mut busy = false;
         work.reload_if_halted(rt, alloc, own_init, peer);
         refused = work.refused(refused);
@@ -703,7 +702,7 @@ where
         }
         work.obey_one(rt, alloc, own_init, peer, &mut busy);
         work.sign_if_idle(rt, alloc, own_init, peer, &mut busy);
-        work.wait(rt, sounds, refused, busy);
+        work.wait(rt, refused, busy);
     }
     unreachable!()
 }

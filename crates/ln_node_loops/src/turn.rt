@@ -1,7 +1,7 @@
 //! One turn of a worker.
 
 ghost use Rattle.std.specs.Prelude.{◌≡◌, ◌++◌, ◌∷◌, [], OnOk, IfOk, IfErr, option_to_list};
-ghost use Rattle.std.specs.Prelude.{option_copied, List, option_map, Some, Err, ◌≤◌, length};
+ghost use Rattle.std.specs.Prelude.{option_copied, List, option_map, Err, ◌≤◌, length};
 ghost use Rattle.ln_msgs.specs.Messages.Message.{Wire, wire_bytes};
 ghost use Rattle.ln_msgs.specs.Messages.Typed.{wire};
 ghost use Rattle.ln_msgs.specs.Messages.Reply.{reply_to};
@@ -11,7 +11,7 @@ ghost use Rattle.ln_node_loops.specs.declared.kind.Kind.TheVariants as kind;
 ghost use Rattle.ln_node_loops.specs.Kind.{kind_of};
 ghost use Rattle.ln_node_loops.specs.Sent.{frame_of, frames_of, sent, listed, outputs_of, answer_of, pongs, sent_for};
 ghost use Rattle.ln_node_loops.specs.Sent.{shown};
-ghost use Rattle.ln_node_loops.specs.Connection.{connection_of};
+ghost use Rattle.ln_node_loops.specs.Connection.{Open, connection_of};
 ghost use Rattle.ln_node_loops.specs.Turn.{SendsNone, Goes, Writes, IsTurn, IsObeyed};
 
 use crate::end::End;
@@ -430,7 +430,7 @@ pub fn worker_turn<E: End, W: Write>(
     writer: &mut Counted<W>,
 ) -> (Vec<Output>, Result<(), Refusal>)
     ensures serves { IsTurn E.acts (E.state end.old) (shown item.entry) result.0.items result.1 (E.state end.new)
-        (Some (connection_of W.contents writer.old)) (Some (connection_of W.contents writer.new)) }
+        (Open (connection_of W.contents writer.old)) (Open (connection_of W.contents writer.new)) }
 {
     take_turn(alloc, end, item, writer)
 }

@@ -6,7 +6,7 @@ ghost use Rattle.ln_node_loops.specs.Turn.{IsTurn};
 ghost use Rattle.ln_node_loops.specs.declared.item.Item.TheVariants as item;
 ghost use Rattle.ln_node_loops.specs.declared.worker.Phase.TheVariants as phase;
 ghost use Rattle.ln_node_loops.specs.Phase.{is_lost, is_refused, init_in, first_after, Greets};
-ghost use Rattle.ln_node_loops.specs.declared.wire.Wire.TheVariants as wire;
+ghost use Rattle.ln_node_loops.specs.Connection.{closed};
 ghost use Rattle.ln_refusals.specs.declared.refusal.Refusal.TheVariants as refusal;
 ghost use Rattle.ln_node_loops.specs.Wire.{connection_at};
 
@@ -36,10 +36,10 @@ pub enum Phase {
 
 /// An end, and the connection that it has.
 #[derive(Drop)]
-pub struct Worker<E: Drop, W: Drop> {
+pub struct Worker<E: Drop, W: Closes + Drop> {
     /// The end.
     pub end: E,
-    /// The writer of its connection, or none.
+    /// Its latest connection.
     pub connection: Wire<W>,
     /// How far its connection is.
     pub phase: Phase,
@@ -163,7 +163,7 @@ impl<E: End + Drop, W: Closes + Drop> Worker<E, W> {
     {
         Worker {
             end,
-            connection: Wire::Cut,
+            connection: Wire::NoneYet,
             phase: Phase::Unconnected,
             last: None,
         }
@@ -173,10 +173,11 @@ impl<E: End + Drop, W: Closes + Drop> Worker<E, W> {
     fn close_connection(&mut self)
         ensures end { self.new.end ≡ self.old.end }
         ensures phase { self.new.phase ≡ phase.Unconnected }
-        ensures connection { self.new.connection ≡ wire.Cut }
+        ensures connection { connection_at W.contents self.new.connection
+            ≡ closed (connection_at W.contents self.old.connection) }
         ensures last { self.new.last ≡ self.old.last }
     {
-        mem::replace(&mut self.connection, Wire::Cut).close();
+        self.connection = mem::replace(&mut self.connection, Wire::NoneYet).close();
         self.phase = Phase::Unconnected;
     }
 
