@@ -113,16 +113,6 @@ where
         }
     }
 
-    /// What is counted of an end under this name is at most so much.
-    pub fn has_at_most(&self, end: End, name: &str, most: u64) -> Result<(), Refusal> {
-        must(self.count(end, name)? <= most)
-    }
-
-    /// What is counted of an end under this name is so much now.
-    pub fn tells(&self, end: End, name: &str, wanted: u64) -> Result<(), Refusal> {
-        must(self.count(end, name)? == wanted)
-    }
-
     /// A node has no answer to the order of this number of its channel.
     pub fn lacks(&self, node: usize, channel: usize, number: u64) -> Result<(), Refusal> {
         let Some(node) = self.nodes.get(node) else {

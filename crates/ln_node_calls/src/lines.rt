@@ -1,113 +1,76 @@
 //! The lines, one by one.
 
-use crate::asking::Wanted;
+use crate::asking::must;
 use crate::ends::ALL;
+use crate::names::{COUNTS, names_of};
 use crate::node::{Driven, ToyNode};
 use crate::row::Row;
 use crate::words::{
-    BAD, at, bytes, command, end, left, node, number, party, saying, side, signing, small,
+    BAD, at, bytes, comes_in, command, end, left, node, parties, party, saying, signing, small,
+    text_at, wanted,
 };
 use ln_channel::Command;
+use ln_named_lines::{first_fault, number_of, words_of};
 use ln_refusals::Refusal;
-use ln_tests_ends::{A0, C0, End, FEE};
-use std::alloc::Global;
+use ln_tests_ends::{End, FEE, is_refused, wide};
+use std::alloc::{AllocError, Global};
 use std::net::{Net, TcpListener, TcpStream};
 use std::sync::Wait;
 use std::sync::atomic::Ordering;
 use std::thread::Threads;
-
-// What is to become of an order.
-fn wanted(word: &str, number: u64) -> Result<Wanted, Refusal> {
-    match word {
-        "done" => Ok(Wanted::Done(number)),
-        "refused" => Ok(Wanted::Refused(number)),
-        _ => Err(BAD),
-    }
-}
 
 impl<N, R> Row<N, R>
 where
     N: Driven + Drop,
     R: Net<Listener = TcpListener, Stream = TcpStream> + Threads + Wait + Copy + Send + 'static,
 {
-    fn pays(&self, words: &[&str]) -> Result<(), Refusal> {
-        let (payer, block) = side(at(words, 1))?;
-        let payment = number(at(words, 2))?;
-        match at(words, 3) {
-            "" => {
-                self.expect(if block == 2 { C0 } else { A0 }, payment)?;
-                self.pay(payer, payment, block, FEE)
-            }
-            "unasked" => self.pay(payer, payment, block, FEE),
-            "short" => self.pay(payer, payment, block, FEE - 1),
-            _ => Err(BAD),
+    // Who is paid waits for it, unless the line says otherwise.
+    fn pays(&self, verb: &str, words: &[&str]) -> Result<(), Refusal> {
+        let (payer, payee, block) = parties(words)?;
+        let preimage = at(words, "preimage");
+        if verb == "payments" {
+            return self.asks_to_pay_all(payer, payee, preimage, at(words, "count"), block);
+        }
+        if at(words, "unasked") == 0 {
+            self.expect(payee, preimage)?;
+        }
+        if verb == "ask" {
+            return self.asks_to_pay(payer, preimage, block, wanted(words)?);
+        }
+        let fee = FEE.saturating_sub(at(words, "short_msat"));
+        self.pay(payer, preimage, block, fee)
+    }
+
+    fn orders(&self, end: End, words: &[&str]) -> Result<(), Refusal> {
+        let wanted = wanted(words)?;
+        self.asks(end, command(self.alloc, words)?, wanted)
+    }
+
+    // A channel signs alone from now on, or is refused by the number that the line names.
+    fn signs_alone_by(&self, node: usize, channel: usize, words: &[&str]) -> Result<(), Refusal> {
+        let done = self.signs_alone(node, channel);
+        match number_of(words, "refused") {
+            Some(number) => must(is_refused(&done, small(number)?)),
+            None => done,
         }
     }
 
-    // Who is paid waits for it.
-    fn sends(&self, words: &[&str]) -> Result<(), Refusal> {
-        let (payer, _) = party(at(words, 1))?;
-        let (payee, block) = party(at(words, 2))?;
-        let payment = number(at(words, 3))?;
-        self.expect(payee, payment)?;
-        self.pay(payer, payment, block, FEE)
-    }
-
-    fn asks_by(&self, words: &[&str]) -> Result<(), Refusal> {
-        let end = end(at(words, 1))?;
-        let wanted = wanted(at(words, 3), number(at(words, 4))?)?;
-        self.asks(end, command(self.alloc, at(words, 2))?, wanted)
-    }
-
-    fn asks_to_pay_by(&self, words: &[&str]) -> Result<(), Refusal> {
-        let (payer, block) = side(at(words, 1))?;
-        let payment = number(at(words, 2))?;
-        let wanted = wanted(at(words, 3), number(at(words, 4))?)?;
-        self.expect(if block == 2 { C0 } else { A0 }, payment)?;
-        self.asks_to_pay(payer, payment, block, wanted)
-    }
-
-    fn asks_to_pay_all_by(&self, words: &[&str]) -> Result<(), Refusal> {
-        let (payer, block) = side(at(words, 1))?;
-        let payee = if block == 2 { C0 } else { A0 };
-        let (first, count) = (number(at(words, 2))?, number(at(words, 3))?);
-        self.asks_to_pay_all(payer, payee, first, count, block)
-    }
-
-    // A channel that is there signs alone; of another the line says so.
-    fn signs_alone_by(&self, words: &[&str]) -> Result<(), Refusal> {
-        let channel = usize::from(small(at(words, 2))?);
-        let is_there = self.signs_alone(node(at(words, 1))?, channel).is_ok();
-        match at(words, 3) {
-            "" if is_there => Ok(()),
-            "none" if !is_there => Ok(()),
-            _ => Err(Refusal::GaveUp),
-        }
-    }
-
-    fn loses(&self, words: &[&str]) -> Result<(), Refusal> {
-        let end = end(at(words, 1))?;
-        let number = number(at(words, 3))?;
-        let comes = match at(words, 2) {
-            "in" => true,
-            "out" => false,
-            _ => return Err(BAD),
-        };
+    fn loses(&self, end: End, words: &[&str]) -> Result<(), Refusal> {
+        let comes = comes_in(words)?;
         let left = self.proxy(end)?.proxy.left(comes != end.connects);
-        left.store(number, Ordering::SeqCst);
+        left.store(at(words, "message"), Ordering::SeqCst);
         Ok(())
     }
 
-    fn burns(&self, words: &[&str]) -> Result<(), Refusal> {
-        let gauge = self.gauge(end(at(words, 1))?)?;
-        let number = number(at(words, 2))?;
-        let leaves_new = left(at(words, 3))?;
+    fn burns(&self, end: End, words: &[&str]) -> Result<(), Refusal> {
+        let leaves_new = left(words)?;
+        let gauge = self.gauge(end)?;
         gauge.leaves_new.store(leaves_new, Ordering::SeqCst);
-        gauge.next_save.store(number, Ordering::SeqCst);
+        gauge.next_save.store(at(words, "save"), Ordering::SeqCst);
         Ok(())
     }
 
-    // What a line of two words has an end do.
+    // What a line has an end do that names nothing else.
     fn does(&self, verb: &str, end: End) -> Result<(), Refusal> {
         match verb {
             "cut" => self.cut(end),
@@ -127,92 +90,123 @@ where
             "fill" => self.fill(end),
             "hook" => self.hook(end),
             "skips" => self.passes(end),
-            "silent" => self.is_silent(end),
             _ => Err(BAD),
         }
     }
 
-    // What one of three words does.
-    fn does_so(&self, verb: &str, end: End, how: &str) -> Result<(), Refusal> {
+    // What it has an end do, or done to it.
+    fn acts(&self, verb: &str, end: End, words: &[&str]) -> Result<(), Refusal> {
         match verb {
             "says" => {
-                let says = saying(how)?;
+                let says = saying(words)?;
                 self.gauge(end)?.says.store(says, Ordering::SeqCst);
                 Ok(())
             }
-            "offers" => self.offers(end, small(how)?),
-            "resume" => self.resume(end, number(how)?),
-            "fee" => {
-                let rate = small(how)?;
-                self.insist(end, Command::Fee(u32::from(rate)))
+            "order" => self.orders(end, words),
+            "resume" => self.resume(end, at(words, "held")),
+            "fee" => self.insist(end, Command::Fee(wide(at(words, "rate")))),
+            "close" => self.close(end, bytes(self.alloc, words, "script")?),
+            "stranger" => {
+                self.meets_stranger(end, bytes(self.alloc, words, "bytes")?.as_slice())
             }
-            "shows" => self.wait_for(end, how),
-            "hears" => self.hears(end, how, 0),
-            "close" => self.close(end, bytes(self.alloc, how)?),
-            "stranger" => self.meets_stranger(end, bytes(self.alloc, how)?.as_slice()),
-            "took" => self.takes_script(end, how),
-            "spoil" => self.spoil(end, left(how)?),
-            "deny" => self.deny(end, number(how)?),
-            _ => Err(BAD),
+            "lose" => self.loses(end, words),
+            "burn" => self.burns(end, words),
+            "spoil" => self.spoil(end, left(words)?),
+            "deny" => self.deny(end, at(words, "loads")),
+            verb => self.does(verb, end),
         }
     }
 
-    // One of four.
-    fn does_so_much(&self, verb: &str, end: End, words: &[&str]) -> Result<(), Refusal> {
+    fn counts_so(&self, verb: &str, end: End, name: &str, wanted: u64) -> Result<(), Refusal> {
         match verb {
-            "most" => self.has_at_most(end, at(words, 2), number(at(words, 3))?),
-            "tells" => self.tells(end, at(words, 2), number(at(words, 3))?),
-            "comes" => self.comes(end, at(words, 2), number(at(words, 3))?),
-            "wait" => self.wait(end, at(words, 2), number(at(words, 3))?),
-            "lose" => self.loses(words),
-            "burn" => self.burns(words),
-            "hears" => self.hears(end, at(words, 2), number(at(words, 3))?),
-            _ => Err(BAD),
+            "most" => must(self.count(end, name)? <= wanted),
+            "tells" => must(self.count(end, name)? == wanted),
+            "comes" => self.comes(end, name, wanted),
+            _ => self.wait(end, name, wanted),
         }
     }
 
-    // One of three.
-    fn act_by_two(&self, words: &[&str]) -> Result<(), Refusal> {
-        match at(words, 0) {
-            "pay" => self.pays(words),
-            "alone" => self.signs_alone_by(words),
-            "expect" => self.expect(side(at(words, 1))?.0, number(at(words, 2))?),
-            "trace" => self.trace(node(at(words, 1))?, number(at(words, 2))?),
-            verb => self.does_so(verb, end(at(words, 1))?, at(words, 2)),
+    // Each count of an end is so that a line names: one at least.
+    fn counts(&self, verb: &str, end: End, names: &[&str], words: &[&str]) -> Result<(), Refusal> {
+        if words.len() < 2 {
+            return Err(BAD);
         }
-    }
-
-    // What a line of four words has a channel of a node do.
-    fn act_at(&self, verb: &str, node: usize, words: &[&str]) -> Result<(), Refusal> {
-        let channel = usize::from(small(at(words, 2))?);
-        match verb {
-            "summary" => self.refuses(node, channel, small(at(words, 3))?),
-            "reconnect" => self.reconnect(node, channel, small(at(words, 3))?),
-            _ => self.lacks(node, channel, number(at(words, 3))?),
-        }
-    }
-
-    // One of four.
-    fn act_by_three(&self, words: &[&str]) -> Result<(), Refusal> {
-        match at(words, 0) {
-            "pay" => self.pays(words),
-            "send" => self.sends(words),
-            "alone" => self.signs_alone_by(words),
-            "payments" => self.asks_to_pay_all_by(words),
-            verb @ ("summary" | "reconnect" | "lacks") => {
-                self.act_at(verb, node(at(words, 1))?, words)
+        for name in names {
+            if let Some(wanted) = number_of(words, name) {
+                self.counts_so(verb, end, name, wanted)?;
             }
-            verb => self.does_so_much(verb, end(at(words, 1))?, words),
+        }
+        Ok(())
+    }
+
+    // What is so of an end, or what it does.
+    fn act_of_end(&self, verb: &str, end: End, words: &[&str]) -> Result<(), Refusal> {
+        match verb {
+            "wait" | "comes" | "tells" | "most" => self.counts(verb, end, &COUNTS, words),
+            "shows" => self.wait_for(end, text_at(words, "state")),
+            "hears" => self.hears(end, text_at(words, "notice"), at(words, "number")),
+            "took" => self.takes_script(end, text_at(words, "script")),
+            "offers" => self.offers(end, small(at(words, "feature"))?),
+            "silent" => self.is_silent(end),
+            verb => self.acts(verb, end, words),
         }
     }
 
-    // One of five.
-    fn act_by_four(&self, words: &[&str]) -> Result<(), Refusal> {
-        match at(words, 0) {
-            "ask" => self.asks_to_pay_by(words),
-            "order" => self.asks_by(words),
-            _ => Err(BAD),
+    // What is so of a node, or of a channel of it.
+    fn act_of_node(&self, verb: &str, node: usize, words: &[&str]) -> Result<(), Refusal> {
+        let channel = usize::from(small(at(words, "channel"))?);
+        match verb {
+            "lists" => self.lists(&ALL, node),
+            "trace" => self.trace(node, at(words, "steps")),
+            "alone" => self.signs_alone_by(node, channel, words),
+            "summary" => self.refuses(node, channel, small(at(words, "refused"))?),
+            "reconnect" => self.reconnect(node, channel, small(at(words, "refused"))?),
+            _ => self.lacks(node, channel, at(words, "order")),
         }
+    }
+
+    // What leaves the row as it is.
+    fn act_by(&self, verb: &str, words: &[&str]) -> Result<(), Refusal> {
+        match verb {
+            "confirm" => self.confirm(),
+            "looks" => {
+                for _ in 0..at(words, "count") {
+                    self.look();
+                }
+                Ok(())
+            }
+            "pay" | "send" | "ask" | "payments" => self.pays(verb, words),
+            "expect" => {
+                let (payee, _) = party(text_at(words, "payee"))?;
+                self.expect(payee, at(words, "preimage"))
+            }
+            "lists" | "trace" | "alone" | "summary" | "reconnect" | "lacks" => {
+                self.act_of_node(verb, node(words)?, words)
+            }
+            verb => self.act_of_end(verb, end(words)?, words),
+        }
+    }
+}
+
+// That the line of this number is refused.
+fn refused(alloc: Global, number: u64, refusal: Refusal) -> Result<String, AllocError> {
+    let refused = refusal.number();
+    format!(in alloc; "line {number} refused {refused}")
+}
+
+// What is wrong with its words; None where nothing is.
+fn fault_of(
+    alloc: Global,
+    number: u64,
+    verb: &str,
+    words: &[&str],
+) -> Result<Option<String>, AllocError> {
+    let Some(names) = names_of(verb) else {
+        return Ok(Some(refused(alloc, number, BAD)?));
+    };
+    match first_fault(&names, words) {
+        Some(fault) => Ok(Some(fault.text(alloc, number)?)),
+        None => Ok(None),
     }
 }
 
@@ -220,68 +214,60 @@ impl<R> Row<ToyNode, R>
 where
     R: Net<Listener = TcpListener, Stream = TcpStream> + Threads + Wait + Copy + Send + 'static,
 {
-    // What a line of one word has the nodes do.
-    fn act_together(&mut self, verb: &str) -> Result<(), Refusal> {
+    fn act(&mut self, verb: &str, words: &[&str]) -> Result<(), Refusal> {
         match verb {
+            "listen" => self.listen(small(at(words, "accepted"))?),
+            "wants" => {
+                self.wanted = small(at(words, "feature"))?;
+                Ok(())
+            }
             "meet" => self.meet(),
-            "confirm" => self.confirm(),
-            "fourth" => self.fourth(),
             "open" => {
                 self.meet()?;
                 self.confirm()
+            }
+            "fourth" => self.fourth(),
+            "restart" => self.restart(node(words)?),
+            "signing" => {
+                self.set_signing(signing(words)?);
+                Ok(())
             }
             "stop" => {
                 self.stop();
                 Ok(())
             }
-            _ => Err(BAD),
+            verb => self.act_by(verb, words),
         }
     }
 
-    // One of two words, of which the second is a number, a node, an end or when to sign.
-    fn act_by(&mut self, verb: &str, word: &str) -> Result<(), Refusal> {
-        match verb {
-            "listen" => self.listen(small(word)?),
-            "restart" => self.restart(node(word)?),
-            "lists" => self.lists(&ALL, node(word)?),
-            "looks" => {
-                for _ in 0..number(word)? {
-                    self.look();
-                }
-                Ok(())
-            }
-            "wants" => {
-                self.wanted = small(word)?;
-                Ok(())
-            }
-            "signing" => {
-                self.set_signing(signing(word)?);
-                Ok(())
-            }
-            verb => self.does(verb, end(word)?),
+    fn serve_by(
+        &mut self,
+        alloc: Global,
+        number: u64,
+        verb: &str,
+        words: &[&str],
+    ) -> Result<Option<String>, AllocError> {
+        if let Some(fault) = fault_of(alloc, number, verb, words)? {
+            return Ok(Some(fault));
+        }
+        match self.act(verb, words) {
+            Ok(()) => Ok(None),
+            Err(refusal) => Ok(Some(refused(alloc, number, refusal)?)),
         }
     }
 
-    fn act(&mut self, words: &[&str]) -> Result<(), Refusal> {
-        match words.len() {
-            1 => self.act_together(at(words, 0)),
-            2 => self.act_by(at(words, 0), at(words, 1)),
-            3 => self.act_by_two(words),
-            4 => self.act_by_three(words),
-            5 => self.act_by_four(words),
-            _ => Err(BAD),
-        }
-    }
-
-    /// Has come about what a line says.
-    pub fn serve(&mut self, alloc: Global, line: &str) -> Result<(), Refusal> {
-        let mut words = Vec::new(alloc);
-        for word in line.split(' ') {
-            words.push(word)?;
-        }
-        match at(words.as_slice(), 0) {
-            "#" => Ok(()),
-            _ => self.act(words.as_slice()),
+    /// None once what the line of this number says has come about. Else what is wrong: the line's first fault, or the
+    /// number by which it is refused.
+    pub fn serve(
+        &mut self,
+        alloc: Global,
+        number: u64,
+        line: &str,
+    ) -> Result<Option<String>, AllocError> {
+        let words = words_of(alloc, line)?;
+        match words.as_slice() {
+            [verb, values @ ..] if *verb != "#" => self.serve_by(alloc, number, verb, values),
+            _ => Ok(None),
         }
     }
 }

@@ -1,59 +1,63 @@
-//! Nodes of one process in a row over loopback, A and B and C, and F where a line says so, driven by lines. A line is
-//! printed once it has come about; one that doesn't, or is none, is the last one, and its number and a refusal's are
-//! printed. So the same is printed in every schedule. stdin has payments that fail and come, lost connections, failing
-//! stores, restarts, payments that wait, closes, a node of three channels, full relays, and what is noted.
+//! Nodes of one process in a row over loopback, A and B and C, and F where a line says so, driven by lines of named
+//! values (names.rt). A line is printed once it has come about; one that doesn't, or is none, is the last one, and its
+//! number is printed with its first fault, or with a refusal's number. So the same is printed in every schedule. stdin
+//! has payments that fail and come, lost connections, failing stores, restarts, payments that wait, closes, a node of
+//! three channels, full relays, and what is noted.
 //!
 //! | Line | What comes about |
 //! |---|---|
-//! | `listen N` | new nodes, of which B and C listen: C takes N HTLCs at once |
-//! | `wants N`, `offers E N` | new nodes want feature N of their peers, or none by 0; the peer of E has offered it |
+//! | `listen accepted=30` | new nodes, of which B and C listen: C takes 30 HTLCs at once |
+//! | `wants feature=40` | new nodes want this feature of their peers, or none by 0 |
+//! | `offers end=A0 feature=13` | the peer of the end has offered it |
 //! | `meet`, `confirm` | A opens a channel with B, and B one with C; both are confirmed, and all ends take payments |
 //! | `open` | both of these |
 //! | `fourth` | F listens: B opens its third channel with it, which is confirmed |
-//! | `pay A N`, `pay C N` | A offers C, or C offers A, payment N, for which the payee waits |
-//! | `send A F N`, .. | the same from and to A, C or F |
-//! | .. `short`, .. `unasked` | a msat less for B than it asks; the payee doesn't wait for it |
-//! | `ask A N done ID`, .. `refused R` | the same as `pay`, and A is answered by the HTLC's id, or a refusal's number |
-//! | `order E WORD done ID`, .. `refused R` | E is ordered to `sign`, `shut`, `fee` or `forget`, and answers so |
-//! | `payments A N COUNT` | A offers that many payments from N on at once |
-//! | `signing idle`, `ordered` | all nodes sign by themselves, and nobody orders it; or they don't |
-//! | `alone NODE K`, .. `none` | channel K of the node signs by itself; there is none |
-//! | `most E WORD COUNT` | E's count is at most so: as with `wait` |
-//! | `tells E WORD COUNT` | E's count is so, without a wait |
-//! | `comes E WORD COUNT` | it comes to be so while nobody is connected again or asked to sign |
-//! | `fill E` | E is ordered until its relay is full; each order that it took is answered by its own refusal |
-//! | `bury E` | E gives 257 answers: the first is forgotten |
-//! | `lacks NODE K N` | the node has no answer to order N of its channel K |
-//! | `expect A N`, `expect C N` | A or C waits for payment N |
-//! | `says E WORD` | E's hook says so of each payment that comes in: `continue`, `hold`, or a failure's code |
-//! | `resume E N` | the N that E holds go on, or fail where its hook has payments fail now |
-//! | `lose E in K`, `lose E out K` | the K-th message from now on to E, or from it, is lost with the connection |
-//! | `cut E` | E shuts its connection |
-//! | `part E`, `join E` | the same, and none is made again; one is |
-//! | `reconnect NODE K R` | the node connects its channel K, which is refused by R |
-//! | `burn E K old`, .. `new` | the K-th save of E from the next `pay` or `resume` on fails, and leaves that record |
-//! | `spoil E old`, .. `new` | the next save of E fails, and leaves that record |
-//! | `deny E N` | the next N loads of E are refused |
-//! | `restart A`, .. | the node starts again from its stores |
-//! | `fee E RATE`, `shut E` | E changes the feerate; it is to shut down |
-//! | `close E HEX`, `took E HEX` | E is to shut down by this script; the first `shutdown` that E was handed tells it |
-//! | `hook E` | a hook is registered for E: `hooks` counts them |
-//! | `stranger E HEX` | a stranger connects with E, and writes these bytes |
-//! | `hears E WORD`, .. `N` | what E notes next is this, with this number: news.rt; `ended` is noted by its reader |
-//! | `silent E` | E has noted nothing more |
-//! | `skips E` | what all have noted is passed over, up to an order that E refuses |
-//! | `looks N`, `stop` | so much time passes; the nodes stop |
-//! | `wait E WORD COUNT` | E counts so: gauge.rt of ln_tests_ends; `usable`, `held`, `lost` connections, `signed` |
-//! | | .. what E's summary or its node's counters tell is so: watch.rt |
-//! | `shows E WORD` | by its summary E is so far: see watch.rt |
-//! | `lists NODE` | all summaries of the node tell of each of its channels what its own tells |
-//! | `trace NODE N` | from now on N steps of the node are kept at once |
-//! | `summary NODE K R` | a summary of channel K of the node is refused by R |
+//! | `pay payer=A preimage=1` | A offers C, or C offers A, the payment of this preimage, for which the payee waits |
+//! | `send payer=A payee=F preimage=1` | the same from and to A, C or F |
+//! | .. `short_msat=1`, .. `unasked=1` | so much less for B than it asks; the payee doesn't wait for it |
+//! | `ask payer=A preimage=1 id=0`, .. `refused=44` | the same, and A is answered by the HTLC's id, or so refused |
+//! | `order end=A0 command=sign id=0`, .. | the end is ordered to `sign`, `shut`, `fee` or `forget`, and answers so |
+//! | `payments payer=A preimage=2 count=10` | A offers ten payments at once, of this preimage and the next ones |
+//! | `signing when=idle`, `ordered` | all nodes sign by themselves, and nobody orders it; or they don't |
+//! | `alone node=B channel=2`, .. `refused=40` | this channel of the node signs by itself; there is none |
+//! | `most end=A0 signed=2` | the end's count is at most so: as with `wait` |
+//! | `tells end=A0 held=1` | the end's count is so, without a wait |
+//! | `comes end=A0 loaded=1` | it comes to be so while nobody is connected again or asked to sign |
+//! | `fill end=B0` | it is ordered until its relay is full; each order that it took is answered by its own refusal |
+//! | `bury end=A0` | the end gives 257 answers: the first is forgotten |
+//! | `lacks node=A channel=0 order=7` | the node has no answer to this order of its channel |
+//! | `expect payee=A preimage=4` | who is paid waits for this payment |
+//! | `says end=B0 verdict=hold` | its hook says so of payments that come in: `continue`, `hold`, a failure's code |
+//! | `resume end=C0 held=1` | what the end holds, so many, goes on, or fails where its hook has payments fail now |
+//! | `lose end=B1 way=in message=2`, `out` | message 2 from now on to the end or from it is lost with the connection |
+//! | `cut end=A0` | the end shuts its connection |
+//! | `part end=A0`, `join end=A0` | the same, and none is made again; one is |
+//! | `reconnect node=B channel=3 refused=40` | the node connects this channel of its own, which is so refused |
+//! | `burn end=B0 save=2 record=old`, `new` | save 2 from the next `pay` or `resume` on fails, and leaves that record |
+//! | `spoil end=A0 record=old`, `new` | its next save fails, and leaves that record |
+//! | `deny end=A0 loads=7` | its next seven loads are refused |
+//! | `restart node=A` | the node starts again from its stores |
+//! | `fee end=A0 rate=300`, `shut end=A0` | the end changes the feerate; it is to shut down |
+//! | `close end=B2 script=51` | the end is to shut down by this script, in hexadecimal |
+//! | `took end=F0 script=51` | the first `shutdown` that the end was handed tells it |
+//! | `hook end=B0` | a hook is registered for the end: `hooks` counts them |
+//! | `stranger end=B0 bytes=000100` | a stranger connects with the end, and writes these bytes |
+//! | `hears end=A0 notice=order number=61` | what the end notes next: news.rt; its reader notes `ended` |
+//! | `silent end=A0` | the end has noted nothing more |
+//! | `skips end=A0` | what all have noted is passed over, up to an order that the end refuses |
+//! | `looks count=100`, `stop` | so much time passes; the nodes stop |
+//! | `wait end=A0 fulfilled=1` | it counts so: gauge.rt of ln_tests_ends; `usable`, `held`, `lost` connections, .. |
+//! | | .. what its summary or its node's counters tell is so: watch.rt |
+//! | `shows end=A0 state=ready` | by its summary the end is so far: see watch.rt |
+//! | `lists node=B` | all summaries of the node tell of each of its channels what its own tells |
+//! | `trace node=A steps=10000` | from now on so many steps of the node are kept at once |
+//! | `summary node=A channel=1 refused=40` | a summary of this channel of the node is so refused |
 //! | `# ..` | nothing |
 //!
-//! E is an end: A0, B0, B1, B2, C0 or F0, by its node and the number of its channel there. While a line waits, lost
-//! connections are made again, and all ends sign what isn't signed. A fault is due before what the lines after it wait
-//! for: both who offered a payment and B, who offered it on, have seen it removed, so that nothing of it is in flight.
+//! An end is A0, B0, B1, B2, C0 or F0, by its node and the number of its channel there. Amounts are millisatoshis.
+//! While a line waits, lost connections are made again, and all ends sign what isn't signed. A fault is due before what
+//! the lines after it wait for: both who offered a payment and B, who offered it on, have seen it removed, so that
+//! nothing of it is in flight.
 #![tactic(auto)]
 
 mod asking;
@@ -62,6 +66,7 @@ mod ends;
 mod faults;
 mod hearing;
 mod lines;
+mod names;
 mod news;
 mod node;
 mod reaching;
@@ -88,8 +93,11 @@ where
         let Ok(line) = line else {
             return false;
         };
-        if let Err(refusal) = row.serve(host.alloc(), line.as_str()) {
-            let _ = println!(host; "line {number} refused {}", refusal.number());
+        let Ok(fault) = row.serve(host.alloc(), number, line.as_str()) else {
+            return false;
+        };
+        if let Some(fault) = fault {
+            let _ = println!(host; "{fault}");
             return false;
         }
         let _ = println!(host; "{line}");

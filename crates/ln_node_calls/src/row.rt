@@ -5,6 +5,7 @@ use crate::ends::{ALL, B2, NODES, end_of, short_id_of, txid_of};
 use crate::faults::Probe;
 use crate::news::{News, Taken, count_notice, count_step, keep_shutdown};
 use crate::node::Driven;
+use crate::words::BAD;
 use ln_bytes::Bytes;
 use ln_channel::Command;
 use ln_hooks::Verdict;
@@ -275,7 +276,7 @@ where
             Some(told) => Ok(told),
             None => match counted(node.counters(), word) {
                 Some(counted) => Ok(counted),
-                None => Err(Refusal::BadScript { line: 0 }),
+                None => Err(BAD),
             },
         }
     }

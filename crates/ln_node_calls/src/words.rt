@@ -1,9 +1,11 @@
-//! What the words of a line say.
+//! What the values of a line say.
 
+use crate::asking::Wanted;
 use crate::ends::{B2, F0};
 use ln_bytes::Bytes;
 use ln_channel::Command;
 use ln_hooks::FailureCode;
+use ln_named_lines::{number_in, number_of, number_or, value_of};
 use ln_node::Signing;
 use ln_refusals::Refusal;
 use ln_tests_ends::{A0, B0, B1, C0, CONTINUE, End, HOLD};
@@ -12,33 +14,28 @@ use std::alloc::Global;
 /// A word that is none.
 pub const BAD: Refusal = Refusal::BadScript { line: 0 };
 
-/// The word at a place; the empty one after the last.
-pub fn at<'a>(words: &[&'a str], place: usize) -> &'a str {
-    match words.get(place) {
-        Some(word) => word,
-        None => "",
+/// The number that a line gives a name, 0 where it gives none.
+pub fn at(words: &[&str], name: &str) -> u64 {
+    number_or(words, name, 0)
+}
+
+/// The text that it gives one, the empty one where it gives none.
+pub fn text_at<'a>(words: &[&'a str], name: &str) -> &'a str {
+    value_of(words, name).unwrap_or("")
+}
+
+/// A number that is at most 65,535.
+pub fn small(number: u64) -> Result<u16, Refusal> {
+    if number <= 0xffff {
+        Ok(number as u16)
+    } else {
+        Err(BAD)
     }
 }
 
-/// The number of a word.
-pub fn number(word: &str) -> Result<u64, Refusal> {
-    match word.parse::<u64>() {
-        Ok(number) => Ok(number),
-        Err(_) => Err(BAD),
-    }
-}
-
-/// The same of at most 65,535.
-pub fn small(word: &str) -> Result<u16, Refusal> {
-    match word.parse::<u16>() {
-        Ok(number) => Ok(number),
-        Err(_) => Err(BAD),
-    }
-}
-
-/// The end of a word.
-pub fn end(word: &str) -> Result<End, Refusal> {
-    match word {
+/// The end that a line names.
+pub fn end(words: &[&str]) -> Result<End, Refusal> {
+    match text_at(words, "end") {
         "A0" => Ok(A0),
         "B0" => Ok(B0),
         "B1" => Ok(B1),
@@ -49,28 +46,9 @@ pub fn end(word: &str) -> Result<End, Refusal> {
     }
 }
 
-/// The end of a payer or a payee, and the block of the channel that leads to the other one.
-pub fn side(word: &str) -> Result<(End, u8), Refusal> {
-    match word {
-        "A" => Ok((A0, 2)),
-        "C" => Ok((C0, 1)),
-        _ => Err(BAD),
-    }
-}
-
-/// The end of who pays or is paid, and the block of its channel.
-pub fn party(word: &str) -> Result<(End, u8), Refusal> {
-    match word {
-        "A" => Ok((A0, 1)),
-        "C" => Ok((C0, 2)),
-        "F" => Ok((F0, 3)),
-        _ => Err(BAD),
-    }
-}
-
-/// The number of a node.
-pub fn node(word: &str) -> Result<usize, Refusal> {
-    match word {
+/// The number of the node that it names.
+pub fn node(words: &[&str]) -> Result<usize, Refusal> {
+    match text_at(words, "node") {
         "A" => Ok(0),
         "B" => Ok(1),
         "C" => Ok(2),
@@ -79,13 +57,50 @@ pub fn node(word: &str) -> Result<usize, Refusal> {
     }
 }
 
+/// The end of who pays or is paid, and the block of its channel.
+pub fn party(name: &str) -> Result<(End, u8), Refusal> {
+    match name {
+        "A" => Ok((A0, 1)),
+        "C" => Ok((C0, 2)),
+        "F" => Ok((F0, 3)),
+        _ => Err(BAD),
+    }
+}
+
+// Who is at the other end of the row.
+fn opposite(name: &str) -> &'static str {
+    match name {
+        "A" => "C",
+        "C" => "A",
+        _ => "",
+    }
+}
+
+/// The end of who pays, that of who is paid, and the block of the latter's channel. Where a line names no payee, the
+/// other end of the row is paid.
+pub fn parties(words: &[&str]) -> Result<(End, End, u8), Refusal> {
+    let name = text_at(words, "payer");
+    let (payer, _) = party(name)?;
+    let (payee, block) = party(value_of(words, "payee").unwrap_or(opposite(name)))?;
+    Ok((payer, payee, block))
+}
+
+/// What is to become of an order: done, with this id of its HTLC, or 0; or refused by this number.
+pub fn wanted(words: &[&str]) -> Result<Wanted, Refusal> {
+    match (number_of(words, "id"), number_of(words, "refused")) {
+        (Some(id), None) => Ok(Wanted::Done(id)),
+        (None, Some(number)) => Ok(Wanted::Refused(number)),
+        _ => Err(BAD),
+    }
+}
+
 /// What a hook is to say.
-pub fn saying(word: &str) -> Result<u64, Refusal> {
-    match word {
+pub fn saying(words: &[&str]) -> Result<u64, Refusal> {
+    match text_at(words, "verdict") {
         "continue" => Ok(CONTINUE),
         "hold" => Ok(HOLD),
         code => {
-            let number = small(code)?;
+            let number = small(number_in(code).unwrap_or(0))?;
             if FailureCode::new(number).is_some() {
                 Ok(u64::from(number))
             } else {
@@ -95,9 +110,9 @@ pub fn saying(word: &str) -> Result<u64, Refusal> {
     }
 }
 
-/// A command by its word.
-pub fn command(alloc: Global, word: &str) -> Result<Command, Refusal> {
-    match word {
+/// What an end is ordered.
+pub fn command(alloc: Global, words: &[&str]) -> Result<Command, Refusal> {
+    match text_at(words, "command") {
         "sign" => Ok(Command::Sign),
         "fee" => Ok(Command::Fee(300)),
         "shut" => Ok(Command::Shutdown(Bytes::empty(alloc))),
@@ -107,25 +122,34 @@ pub fn command(alloc: Global, word: &str) -> Result<Command, Refusal> {
 }
 
 /// What a save that fails leaves: 1 for the new record.
-pub fn left(word: &str) -> Result<u64, Refusal> {
-    match word {
+pub fn left(words: &[&str]) -> Result<u64, Refusal> {
+    match text_at(words, "record") {
         "old" => Ok(0),
         "new" => Ok(1),
         _ => Err(BAD),
     }
 }
 
-/// Bytes in hexadecimal.
-pub fn bytes(alloc: Global, word: &str) -> Result<Bytes, Refusal> {
-    match hex::decode(alloc, word) {
+/// Whether messages to an end are meant, and not those from it.
+pub fn comes_in(words: &[&str]) -> Result<bool, Refusal> {
+    match text_at(words, "way") {
+        "in" => Ok(true),
+        "out" => Ok(false),
+        _ => Err(BAD),
+    }
+}
+
+/// The bytes that a line gives a name, in hexadecimal.
+pub fn bytes(alloc: Global, words: &[&str], name: &str) -> Result<Bytes, Refusal> {
+    match hex::decode(alloc, text_at(words, name)) {
         Ok(bytes) => Ok(Bytes::new(bytes)),
         Err(_) => Err(BAD),
     }
 }
 
 /// When nodes sign.
-pub fn signing(word: &str) -> Result<Signing, Refusal> {
-    match word {
+pub fn signing(words: &[&str]) -> Result<Signing, Refusal> {
+    match text_at(words, "when") {
         "ordered" => Ok(Signing::WhenOrdered),
         "idle" => Ok(Signing::WhenIdle),
         _ => Err(BAD),
