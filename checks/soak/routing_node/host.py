@@ -1,19 +1,25 @@
 """The process that has the node, its records in SQLite, and its peers' messages by turns."""
 import faulthandler, os, random, signal, sqlite3, struct, time, traceback
-from ctypes import Structure, byref, c_size_t, CDLL
+from ctypes import Structure, byref, c_long, c_size_t, c_void_p, CDLL
 
 from lnlink.library import Handle, library
 from lnlink.node_items import held_from_bytes
-from lnlink.refusals import check
+from lnlink.refusals import Refused, check
 
-from wire import (BAD_ONION, BEGIN, CONFIRM, CONNECT, CUT, DIE, END, FAULT, FEE, HEIGHT, HELD, MESSAGE, OPEN, REPORT,
-                  SETTINGS, STOP_CODE, STOPPED, TAKEN, Frames, Turns, Wrong, config_of, is_funder, keys_of, opened,
-                  payment_secret_of, preimage_of, refused, short_id_of, spec_of, told)
+from wire import (AGAIN, BAD_ONION, BEGIN, CONFIRM, CONNECT, CUT, DIE, END, FAULT, FEE, HEIGHT, HELD, MESSAGE, OPEN,
+                  REFUSE, REPORT, SETTINGS, STOP_CODE, STOPPED, TAKEN, Frames, Turns, Wrong, config_of, is_funder,
+                  keys_of, opened, payment_secret_of, preimage_of, refused, short_id_of, spec_of, told)
 
-NOT_READY, DISCONNECTED = 40, 47
+NOT_READY, DISCONNECTED, MEMORY, HALTED = 40, 47, 60, 62
 GO_ON, FAIL, HOLD = b"\0", b"\1", b"\2"
 # How many turns the host holds a payment.
 HOLD_TURNS = 3
+# How many turns the host goes on with the other channels, once a link has halted.
+GOES_ON = 0, 1, 1, 2, 3, 5
+# Of so many allocations of a call one is refused, rather an early one: those of a load are more. Of calls beside these,
+# which move channels, one in four is tried.
+MOST, MOST_OF_LOAD = 100, 2000
+MOVES = library.lnl_node_load, library.lnl_node_message, library.lnl_node_sign, library.lnl_node_verdict
 TWO = struct.Struct(">QQ")
 
 
@@ -74,18 +80,36 @@ def used():
     return told.uordblks + told.hblkhd
 
 
-mallinfo = CDLL(None).mallinfo2
+here = CDLL(None)
+mallinfo = here.mallinfo2
 mallinfo.restype = Mallinfo
+
+
+def is_preloaded():
+    """Whether allocations can be refused: by refuse.c."""
+    return hasattr(here, "refuse_after")
+
+
+def without(number, call, *arguments):
+    """Makes a call of the library that lacks its allocation of this number: its answer, and whether it made one."""
+    here.refuse_after(c_long(number), c_void_p.from_param(call))
+    answer = call(*arguments)
+    return answer, here.refuse_never()
 
 
 class Host:
     """The node, by the calls of include/lnlink.h. It hands out what waits now and then, and all of it at the end of a
     turn; some events it decides, and some blanks it fills, only then. It signs in most turns. It ends by itself
-    (SIGKILL) at its step of the number `last`: a step is a call, a row of a transaction, a message that is sent."""
+    (SIGKILL) at its step of the number `last`: a step is a call, a row of a transaction, a message that is sent.
 
-    def __init__(self, socket, path, seed, life, last):
+    From each of the steps of the numbers `refusals` on an allocation is refused, in the first call drawn that makes so
+    many. A call that lacks memory is made again, some only later. Where a link has halted, the host goes on with the
+    others for some turns, and then ends, so that all are loaded anew."""
+
+    def __init__(self, socket, path, seed, life, last, refusals):
         faulthandler.register(signal.SIGUSR1)  # so it can tell where it hangs
         self.steps, self.last, self.seed = 0, last, seed
+        self.refusals, self.refused, self.looked, self.leaves = sorted(refusals), 0, 0, 0
         self.socket, self.turns, self.out, self.turn = socket, Turns(socket), Frames(), 0
         self.chance = random.Random(f"host {seed} {life}")
         self.records, self.used_before = Records(path, self.step), used()
@@ -101,11 +125,46 @@ class Host:
             self.socket.sendall(self.out)
             os.kill(os.getpid(), signal.SIGKILL)
 
-    def obey(self, call, *arguments, may_answer=()):
-        self.step()
+    def call(self, call, *arguments):
+        """Calls the library, with an allocation refused where that is due."""
+        if self.refusals and self.refusals[0] <= self.steps and (call in MOVES or self.chance.random() < 0.25):
+            return self.call_without(call, *arguments)
         answer = call(self.at, *arguments)
-        if answer and answer not in may_answer:
+        if answer == MEMORY:
+            raise Wrong(f"{call.__name__} lacks memory, but nothing was refused")
+        return answer
+
+    def call_without(self, call, *arguments):
+        most = MOST_OF_LOAD if call is library.lnl_node_load else MOST
+        number = 1 + int(most * self.chance.random() ** 2)
+        answer, was_refused = without(number, call, self.at, *arguments)
+        if was_refused:
+            del self.refusals[0]
+            self.refused += 1
+            numbers = [it for it in arguments if isinstance(it, int)]
+            self.out.put(REFUSE, 0, f"{call.__name__} {numbers} lacks {number}, answers {answer}".encode())
+        return answer
+
+    def obey(self, call, *arguments, may_answer=()):
+        """Its answer: 0, one of these, or that a link has halted. One that lacks memory is made again."""
+        self.step()
+        answer = self.call(call, *arguments)
+        while answer == MEMORY and (MEMORY not in may_answer or self.chance.random() < 0.5):
+            answer = self.call(call, *arguments)
+        if answer and answer not in may_answer and not (answer == HALTED and self.refused):
             check(answer)
+        return answer
+
+    def told(self, call, *arguments, may_lack=False):
+        """What a call tells. One that lacks memory is made again, or it tells nothing for now."""
+        while True:
+            try:
+                return told(self.call, call, *arguments)
+            except Refused as found:
+                if found.number != MEMORY:
+                    raise
+            if may_lack and self.chance.random() < 0.5:
+                return b""
 
     # ---- its life
 
@@ -117,7 +176,7 @@ class Host:
         self.obey(library.lnl_node_height, HEIGHT)
         self.has_begun = not records
         self.hand_out()
-        self.held = [(HOLD_TURNS, it.channel, it.event) for it in held_from_bytes(told(library.lnl_node_held, self.at))]
+        self.held = [(HOLD_TURNS, it.channel, it.event) for it in held_from_bytes(self.told(library.lnl_node_held))]
 
     def run(self):
         try:
@@ -148,9 +207,11 @@ class Host:
         elif kind == BEGIN:
             self.begin()
         elif kind == FEE:
-            self.command(channel, b"\5" + data, may_answer=(NOT_READY, DISCONNECTED))
+            self.command(channel, b"\5" + data, may_answer=(NOT_READY, DISCONNECTED, MEMORY))
         elif kind == DIE:
             self.last = self.steps + int.from_bytes(data, "big")
+        elif kind == REFUSE:
+            self.refusals = sorted([*self.refusals, self.steps + int.from_bytes(data, "big")])
         elif kind == REPORT:
             self.report()
 
@@ -168,14 +229,20 @@ class Host:
         assert number.value == channel
 
     def take_in(self, channel, message):
-        question = told(library.lnl_node_question, self.at, channel, message, len(message))
-        answer = self.keys[channel].answer(question, message)
-        self.step()
-        number = library.lnl_node_message(self.at, channel, message, len(message), answer, len(answer))
-        if number:
-            raise refused("the node", channel, message, number)
+        while self.give(channel, message) == MEMORY:
+            pass
         if self.chance.random() < 0.25:
             self.hand_out(self.chance.choice((1, 3, 10, 1000)))
+
+    def give(self, channel, message):
+        """By a link that has halted nothing is asked."""
+        question = self.told(library.lnl_node_question, channel, message, len(message))
+        answer = self.keys[channel].answer(question, message)
+        self.step()
+        number = self.call(library.lnl_node_message, channel, message, len(message), answer, len(answer))
+        if number not in (0, MEMORY) and not (number == HALTED and self.refused):
+            raise refused("the node", channel, message, number)
+        return number
 
     def begin(self):
         """Events are decided from now on."""
@@ -184,7 +251,21 @@ class Host:
         for item in untold:
             self.tell(item)
 
+    def look_for_halts(self):
+        """Where a link has halted, the host ends some turns later."""
+        if self.looked < self.refused and not self.leaves:
+            self.looked = self.refused
+            looks = [self.told(library.lnl_node_look, it) for it in range(len(self.keys))]
+            if any(it[1] for it in looks):
+                self.leaves = self.turn + self.chance.choice(GOES_ON)
+        if self.leaves and self.leaves <= self.turn:
+            library.lnl_node_free(self.at)
+            self.out.put(AGAIN)
+            self.socket.sendall(self.out)
+            os._exit(0)
+
     def end_turn(self):
+        self.look_for_halts()
         self.hand_out()
         late, self.late_events = self.late_events, []
         for item in late:
@@ -196,7 +277,7 @@ class Host:
         self.hand_out()
         late, self.late_blanks = self.late_blanks, []
         for channel, message, filling in late:
-            self.fill(channel, message, filling, may_answer=(NOT_READY,))  # its connection may have been lost
+            self.fill(channel, message, filling, may_answer=(NOT_READY, MEMORY))  # its connection may have been lost
         self.hand_out()
         self.out.put(END, 0, struct.pack(">QI", time.process_time_ns(), self.steps))
         self.socket.sendall(self.out)
@@ -208,19 +289,20 @@ class Host:
         due = [it for it in self.held if it[0] <= self.turn]
         self.held = [it for it in self.held if it[0] > self.turn]
         for _, channel, event in due:
-            self.obey(library.lnl_node_resume, channel, event, GO_ON, 1)
+            if self.obey(library.lnl_node_resume, channel, event, GO_ON, 1, may_answer=(MEMORY,)) == MEMORY:
+                self.held.append((self.turn + 1, channel, event))
 
     def report(self):
         for channel in range(len(self.keys)):
-            self.out.put(REPORT, channel, told(library.lnl_node_look, self.at, channel))
-        held = told(library.lnl_node_held, self.at)
+            self.out.put(REPORT, channel, self.told(library.lnl_node_look, channel))
+        held = self.told(library.lnl_node_held)
         self.out.put(REPORT, len(self.keys), struct.pack(">QQ", len(held), used() - self.used_before))
 
     # ---- what the node hands out
 
     def hand_out(self, most=1 << 60):
         for _ in range(most):
-            item = told(library.lnl_node_next, self.at)
+            item = self.told(library.lnl_node_next, may_lack=self.has_begun)
             if not item:
                 return
             self.step()
@@ -249,8 +331,10 @@ class Host:
             self.out.put(MESSAGE, channel, item[18:])
             self.step()
 
-    def fill(self, channel, message, filling, may_answer=()):
-        self.obey(library.lnl_node_fill, channel, message, filling, len(filling), may_answer=may_answer)
+    def fill(self, channel, message, filling, may_answer=(MEMORY,)):
+        arguments = channel, message, filling, len(filling)
+        if self.obey(library.lnl_node_fill, *arguments, may_answer=may_answer) == MEMORY:
+            self.late_blanks.append((channel, message, filling))
 
     def take_event(self, item):
         if not self.has_begun:
@@ -265,8 +349,10 @@ class Host:
         verdict = GO_ON
         if item[18] == 0 and not item[19]:  # an HTLC that a peer has offered, with its onion
             verdict = {STOPPED: FAIL + STOP_CODE, HELD: HOLD}.get(item[72], GO_ON)
-        self.obey(library.lnl_node_verdict, channel, number, verdict, len(verdict))
-        if verdict == HOLD:
+        answer = self.obey(library.lnl_node_verdict, channel, number, verdict, len(verdict), may_answer=(MEMORY,))
+        if answer == MEMORY:
+            self.late_events.append(item)
+        elif verdict == HOLD:
             self.held.append((self.turn + HOLD_TURNS, channel, number))
 
     def open_onion(self, item):

@@ -18,6 +18,7 @@ MOST = 10
 SIGN = b"\6"
 # After these of the node an end that is open takes payments.
 CHANNEL_READY, REESTABLISH = b"\0\x24", b"\0\x88"
+ADD, COMMITMENT_SIGNED = b"\0\x80", b"\0\x84"
 
 
 class Results:
@@ -27,7 +28,14 @@ class Results:
         self.payments = payments
         self.arrived = array("B", bytes(payments.count))  # how often its HTLC was committed at its payee
         self.ends = [""] * payments.count
+        self.signed = {}  # by payments, the HTLC that the node has signed for its payee: its channel, and its id
         self.over = 0
+
+    def sign(self, number, channel, htlc):
+        """The node has signed an HTLC for a payee."""
+        before = self.signed.setdefault(number, (channel, htlc))
+        if before != (channel, htlc):
+            raise Wrong(f"payment {number} is signed twice: as HTLC {before[1]} of channel {before[0]}, then as {htlc}")
 
     def arrive(self, number, channel, amount, payment_hash):
         """An HTLC is committed at its payee."""
@@ -87,6 +95,7 @@ class Peer:
         self.feerate = 0  # that it is to set, in satoshi for 1000 units of weight
         self.offered, self.next_id = {}, 0  # its own HTLCs, by their ids
         self.due, self.given = {}, {}  # HTLCs of the node's that it has to remove, and has removed
+        self.unsigned = []  # payments that the node has offered, and the ids of their HTLCs
         if is_funder(channel):
             call, data = library.lnl_open, spec_of(self.keys, channel).to_bytes()
         else:
@@ -113,6 +122,7 @@ class Peer:
     def disconnect(self):
         """What wasn't signed is lost, and done again later."""
         self.is_connected = self.is_up = False
+        self.unsigned = []
         check(library.lnl_disconnect(self.at))
         self.hand_out()
         if not self.offered and not self.given:
@@ -132,6 +142,12 @@ class Peer:
             raise refused("the peer", self.channel, message, number)
         if message[:2] in (CHANNEL_READY, REESTABLISH):
             self.is_up = True
+        elif message[:2] == ADD:
+            self.unsigned.append((int.from_bytes(message[86:94], "big"), int.from_bytes(message[34:42], "big")))
+        elif message[:2] == COMMITMENT_SIGNED:
+            for number, htlc in self.unsigned:
+                self.results.sign(number, self.channel, htlc)
+            self.unsigned = []
         return self.hand_out()
 
     def hand_out(self):

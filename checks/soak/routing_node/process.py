@@ -14,15 +14,16 @@ class Process:
         self.doing, self.seconds, self.counted = "opens", {"opens": 0.0, "starts": 0.0, "pays": 0.0}, 0.0
         self.steps = self.steps_before = 0
 
-    def start(self, last=0):
-        """It ends by itself at its step of this number, where that isn't 0."""
+    def start(self, last=0, refusals=()):
+        """It ends by itself at its step of this number, where that isn't 0. From each of these steps on an allocation
+        is refused."""
         self.life += 1
         own, other = socket.socketpair()
         self.pid = os.fork()
         if not self.pid:
             try:
                 own.close()
-                Host(other, self.path, self.seed, self.life, last).run()
+                Host(other, self.path, self.seed, self.life, last, refusals).run()
             finally:
                 os._exit(0)
         other.close()
@@ -41,7 +42,7 @@ class Process:
             self.socket.sendall(frames)
 
     def next(self):
-        """The frames of its turn. END is the last, unless it was killed in it."""
+        """The frames of its turn. END is the last, unless it has ended in it."""
         try:
             frames = self.turns.next()
         except TimeoutError:

@@ -39,8 +39,8 @@ def told(call, *arguments):
 
 # ---- turns
 
-# A frame is a length, one of these, a channel's number and bytes. END is the last of a turn.
-MESSAGE, OPEN, CONFIRM, CONNECT, CUT, BEGIN, FEE, DIE, REPORT, FAULT, END = range(11)
+# A frame is a length, one of these, a channel's number and bytes. END is the last of a turn, AGAIN that of a life.
+MESSAGE, OPEN, CONFIRM, CONNECT, CUT, BEGIN, FEE, DIE, REFUSE, REPORT, FAULT, AGAIN, END = range(13)
 HEAD = struct.Struct(">IBI")
 
 
