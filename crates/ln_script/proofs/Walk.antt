@@ -17,12 +17,14 @@ use Rattle.ln_script.specs.Word.{◌>>=◌, decimal_at, number_at, node_at, end_
 use Rattle.ln_script.specs.Keys.{toy}
 use Rattle.ln_script.specs.Command.{command_at}
 use Rattle.ln_script.specs.Step.{ToyStep, fees_if, fees_at, limits_at, fees_line, limits_line, setting_at, set_line}
-use Rattle.ln_script.specs.Step.{opening_at, open_line, up_line, down_line, restart_line, deliver_line, command_line}
+use Rattle.ln_script.specs.Step.{opening_at, open_line, up_line, down_line, restart_line, end_line, command_line}
 use Rattle.ln_script.specs.declared.step.Doing.{Doing}
+use Rattle.ln_script.specs.declared.step.Round.{Round}
+use Rattle.ln_script.specs.declared.step.Round.TheVariants as round
 use Rattle.ln_script.specs.Step.{policy_at, policy_line, height_line, expect_at, expect_line}
-use Rattle.ln_script.specs.Step.{dispatch_line, register_line, take_line, decide_line, other_step_at}
+use Rattle.ln_script.specs.Step.{dispatch_line, register_line, other_step_at}
 use Rattle.ln_script.specs.Step.{said_at, resume_at, resume_line}
-use Rattle.ln_script.specs.Step.{act_line, do_line, stop_before_line, stop_after_line, no_memory_line}
+use Rattle.ln_script.specs.Step.{act_line, do_line, round_step, round_line}
 use Rattle.ln_script.specs.Step.{step_at, ready_steps, ready_line, one_step, word_line, steps_at}
 use Rattle.ln_script.specs.Step.{numbered}
 use Rattle.ln_script.specs.Hook.{hooked_at}
@@ -180,20 +182,10 @@ module _ (P : ToyStep → Type 0) (kinds : IsOfEachKind P) where
   abbrev IsDoing : Doing → Type 0
   IsDoing d = RoundAct P d.end d.what
 
-  deliver_lines : (ws : List (List ℕ)) → Has IsDoing (deliver_line ws)
-  deliver_lines [] = tt
-  deliver_lines (e ∷ []) = then IsDoing (end_at e) _ (λ end. kinds.delivers end)
-  deliver_lines (e ∷ w ∷ ws) = tt
-
-  take_lines : (ws : List (List ℕ)) → Has IsDoing (take_line ws)
-  take_lines [] = tt
-  take_lines (e ∷ []) = then IsDoing (end_at e) _ (λ end. kinds.takes end)
-  take_lines (e ∷ w ∷ ws) = tt
-
-  decide_lines : (ws : List (List ℕ)) → Has IsDoing (decide_line ws)
-  decide_lines [] = tt
-  decide_lines (e ∷ []) = then IsDoing (end_at e) _ (λ end. kinds.decides end)
-  decide_lines (e ∷ w ∷ ws) = tt
+  end_lines : (a : Act) → ((end : End) → RoundAct P end a) → (ws : List (List ℕ)) → Has IsDoing (end_line a ws)
+  end_lines a acts [] = tt
+  end_lines a acts (e ∷ []) = then IsDoing (end_at e) _ acts
+  end_lines a acts (e ∷ w ∷ ws) = tt
 
   resume_words : (e k w : List ℕ) (ws : List (List ℕ)) → Has IsDoing (resume_at e k w ws)
   unfolding resume_at
@@ -219,25 +211,22 @@ module _ (P : ToyStep → Type 0) (kinds : IsOfEachKind P) where
   act_lines : (w : List ℕ) (ws : List (List ℕ)) → Has IsDoing (act_line w ws)
   unfolding act_line
   act_lines w ws =
-      either IsDoing (bytes_eq w (codes "deliver")) _ _ (deliver_lines ws)
-      (either IsDoing (bytes_eq w (codes "take")) _ _ (take_lines ws)
-      (either IsDoing (bytes_eq w (codes "decide")) _ _ (decide_lines ws)
+      either IsDoing (bytes_eq w (codes "deliver")) _ _ (end_lines act.Deliver kinds.delivers ws)
+      (either IsDoing (bytes_eq w (codes "take")) _ _ (end_lines act.Take kinds.takes ws)
+      (either IsDoing (bytes_eq w (codes "decide")) _ _ (end_lines act.Decide kinds.decides ws)
       (either IsDoing (bytes_eq w (codes "resume")) _ _ (resume_lines ws) (command_lines w ws))))
 
   do_lines : (w : List ℕ) (ws : List (List ℕ)) → Has P (do_line w ws)
   do_lines w ws = then_of IsDoing P (act_line w ws) _ (act_lines w ws) (λ doing h. h.0)
 
-  stop_before_lines : (ws : List (List ℕ)) → Has P (stop_before_line ws)
-  stop_before_lines [] = tt
-  stop_before_lines (w ∷ ws) = then_of IsDoing P (act_line w ws) _ (act_lines w ws) (λ doing h. h.1.0)
+  round_steps : (r : Round) (doing : Doing) → IsDoing doing → P (round_step r doing.end doing.what)
+  round_steps round.StopBefore doing h = h.1.0
+  round_steps round.StopAfter doing h = h.1.1.0
+  round_steps round.NoMemory doing h = h.1.1.1
 
-  stop_after_lines : (ws : List (List ℕ)) → Has P (stop_after_line ws)
-  stop_after_lines [] = tt
-  stop_after_lines (w ∷ ws) = then_of IsDoing P (act_line w ws) _ (act_lines w ws) (λ doing h. h.1.1.0)
-
-  no_memory_lines : (ws : List (List ℕ)) → Has P (no_memory_line ws)
-  no_memory_lines [] = tt
-  no_memory_lines (w ∷ ws) = then_of IsDoing P (act_line w ws) _ (act_lines w ws) (λ doing h. h.1.1.1)
+  round_lines : (r : Round) (ws : List (List ℕ)) → Has P (round_line r ws)
+  round_lines r [] = tt
+  round_lines r (w ∷ ws) = then_of IsDoing P (act_line w ws) _ (act_lines w ws) (round_steps r)
 
   -- what holds where it holds of a hook line
 
@@ -259,9 +248,9 @@ module _ (P : ToyStep → Type 0) (kinds : IsOfEachKind P) where
       (either P (bytes_eq w (codes "up")) _ _ (up_lines ws)
       (either P (bytes_eq w (codes "down")) _ _ (down_lines ws)
       (either P (bytes_eq w (codes "restart")) _ _ (restart_lines ws)
-      (either P (bytes_eq w (codes "stop-before")) _ _ (stop_before_lines ws)
-      (either P (bytes_eq w (codes "stop-after")) _ _ (stop_after_lines ws)
-      (either P (bytes_eq w (codes "no-memory")) _ _ (no_memory_lines ws) (other w ws hook))))))))
+      (either P (bytes_eq w (codes "stop-before")) _ _ (round_lines round.StopBefore ws)
+      (either P (bytes_eq w (codes "stop-after")) _ _ (round_lines round.StopAfter ws)
+      (either P (bytes_eq w (codes "no-memory")) _ _ (round_lines round.NoMemory ws) (other w ws hook))))))))
 
   -- ---- lines
 

@@ -7,12 +7,16 @@ use Rattle.ln_bytes.specs.declared.short_id.ShortId.{ShortId}
 use Rattle.ln_keys.specs.declared.toy_keys.ToyKeys.{ToyKeys}
 use Rattle.ln_channel.specs.declared.command.Command.TheVariants as command
 use Rattle.ln_book_tables.specs.declared.entry.Invoice.{Invoice}
+use Rattle.ln_world_channels.specs.declared.step.End.{End}
 use Rattle.ln_world_channels.specs.declared.step.Node.{Node}
 use Rattle.ln_world_channels.specs.declared.step.Open.{Open}
+use Rattle.ln_world.specs.declared.step.Act.{Act}
 use Rattle.ln_world.specs.declared.step.Act.TheVariants as act
 use Rattle.ln_world.specs.declared.step.Step.{Step}
 use Rattle.ln_world.specs.declared.step.Step.TheVariants as step
 use Rattle.ln_script.specs.declared.step.Doing.{Doing}
+use Rattle.ln_script.specs.declared.step.Round.{Round}
+use Rattle.ln_script.specs.declared.step.Round.TheVariants as round
 use Rattle.ln_hooks.specs.declared.verdict.Verdict.{Verdict}
 use Rattle.ln_hooks.specs.declared.verdict.Verdict.TheVariants as verdict
 use Rattle.ln_script.specs.Hook.{lawful_at, hooked_at}
@@ -178,26 +182,12 @@ register_line ws = do
   hooked ← hooked_at ws
   Some (step.Register hooked.end 0)
 
--- deliver E
-abbrev pub deliver_line : List (List ℕ) → Option Doing
-deliver_line (e ∷ []) = do
+-- deliver E, take E or decide E
+abbrev pub end_line : Act → List (List ℕ) → Option Doing
+end_line a (e ∷ []) = do
   end ← end_at e
-  Some (record { end = end; what = act.Deliver })
-deliver_line _ = None
-
--- take E
-abbrev pub take_line : List (List ℕ) → Option Doing
-take_line (e ∷ []) = do
-  end ← end_at e
-  Some (record { end = end; what = act.Take })
-take_line _ = None
-
--- decide E
-abbrev pub decide_line : List (List ℕ) → Option Doing
-decide_line (e ∷ []) = do
-  end ← end_at e
-  Some (record { end = end; what = act.Decide })
-decide_line _ = None
+  Some (record { end = end; what = a })
+end_line a _ = None
 
 -- what is said of what is held: continue, or fail CODE
 abbrev pub goes_on_at : List (List ℕ) → Option Verdict
@@ -237,9 +227,9 @@ command_line w [] = None
 
 unfoldable pub act_line : List ℕ → List (List ℕ) → Option Doing
 act_line w ws =
-    if bytes_eq w (codes "deliver") then deliver_line ws
-    else (if bytes_eq w (codes "take") then take_line ws
-    else (if bytes_eq w (codes "decide") then decide_line ws
+    if bytes_eq w (codes "deliver") then end_line act.Deliver ws
+    else (if bytes_eq w (codes "take") then end_line act.Take ws
+    else (if bytes_eq w (codes "decide") then end_line act.Decide ws
     else (if bytes_eq w (codes "resume") then resume_line ws else command_line w ws)))
 
 abbrev pub do_line : List ℕ → List (List ℕ) → Option ToyStep
@@ -247,26 +237,18 @@ do_line w ws = do
   doing ← act_line w ws
   Some (step.Do doing.end doing.what)
 
--- stop-before LINE
-abbrev pub stop_before_line : List (List ℕ) → Option ToyStep
-stop_before_line (w ∷ ws) = do
-  doing ← act_line w ws
-  Some (step.StopBefore doing.end doing.what)
-stop_before_line [] = None
+-- what happens round an act
+abbrev pub round_step : Round → End → Act → ToyStep
+round_step round.StopBefore e a = step.StopBefore e a
+round_step round.StopAfter e a = step.StopAfter e a
+round_step round.NoMemory e a = step.NoMemory e a
 
--- stop-after LINE
-abbrev pub stop_after_line : List (List ℕ) → Option ToyStep
-stop_after_line (w ∷ ws) = do
+-- LINE, after stop-before, stop-after or no-memory
+abbrev pub round_line : Round → List (List ℕ) → Option ToyStep
+round_line r (w ∷ ws) = do
   doing ← act_line w ws
-  Some (step.StopAfter doing.end doing.what)
-stop_after_line [] = None
-
--- no-memory LINE
-abbrev pub no_memory_line : List (List ℕ) → Option ToyStep
-no_memory_line (w ∷ ws) = do
-  doing ← act_line w ws
-  Some (step.NoMemory doing.end doing.what)
-no_memory_line [] = None
+  Some (round_step r doing.end doing.what)
+round_line r [] = None
 
 -- ---- the step of a line: its first word says which
 
@@ -284,9 +266,9 @@ step_at w ws =
     else (if bytes_eq w (codes "up") then up_line ws
     else (if bytes_eq w (codes "down") then down_line ws
     else (if bytes_eq w (codes "restart") then restart_line ws
-    else (if bytes_eq w (codes "stop-before") then stop_before_line ws
-    else (if bytes_eq w (codes "stop-after") then stop_after_line ws
-    else (if bytes_eq w (codes "no-memory") then no_memory_line ws else other_step_at w ws)))))))
+    else (if bytes_eq w (codes "stop-before") then round_line round.StopBefore ws
+    else (if bytes_eq w (codes "stop-after") then round_line round.StopAfter ws
+    else (if bytes_eq w (codes "no-memory") then round_line round.NoMemory ws else other_step_at w ws)))))))
 
 -- ---- the steps of a line
 

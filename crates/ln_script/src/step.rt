@@ -2,14 +2,13 @@
 
 ghost use Rattle.std.specs.Prelude.{◌≡◌, ◌++◌, IfOk, IfErr, OnOk};
 ghost use Rattle.ln_refusals.specs.declared.refusal.Refusal.TheVariants as refusal;
-ghost use Rattle.ln_script.specs.Step.{texts, fees_at, limits_at, policy_at, fees_line, limits_line, policy_line};
-ghost use Rattle.ln_script.specs.Step.{setting_at, set_line, height_line, invoice_of, expect_at, expect_line};
-ghost use Rattle.ln_script.specs.Step.{dispatch_line, register_line, take_line, decide_line, other_step_at};
-ghost use Rattle.ln_script.specs.Step.{opening_at, open_line, up_line, down_line, restart_line, deliver_line};
-ghost use Rattle.ln_script.specs.Step.{command_line, act_line, do_line, stop_before_line, stop_after_line};
-ghost use Rattle.ln_script.specs.Step.{no_memory_line, step_at, confirms, delivers, ready_steps, ready_line, one_step};
-ghost use Rattle.ln_script.specs.Step.{word_line, steps_at, if_good, joined, goes_on_at, fails_at, said_at, resume_at};
-ghost use Rattle.ln_script.specs.Step.{resume_line};
+ghost use Rattle.ln_script.specs.Step.{texts, fees_line, limits_line, policy_line, setting_at, set_line, height_line};
+ghost use Rattle.ln_script.specs.Step.{invoice_of, expect_line, dispatch_line, register_line, other_step_at};
+ghost use Rattle.ln_script.specs.Step.{opening_at, open_line, up_line, down_line, restart_line, end_line};
+ghost use Rattle.ln_script.specs.Step.{command_line, act_line, do_line, round_line};
+ghost use Rattle.ln_script.specs.Step.{step_at, confirms, delivers, ready_steps, ready_line, one_step};
+ghost use Rattle.ln_script.specs.Step.{word_line, steps_at, if_good, joined, goes_on_at, fails_at, said_at};
+ghost use Rattle.ln_script.specs.Step.{resume_at, resume_line};
 
 use crate::command::{command_of, preimage_of};
 use crate::hook::{hooked_by, lawful_code_of};
@@ -30,9 +29,12 @@ use std::alloc::Global;
 
 /// set X fees FIRST LEAST MOST
 #[tactic(auto, unfolding(crate::specs::Step::fees_at))]
-fn fees(node: Node, first: &str, least: &str, most: &str) -> Option<Step<ToyKeys>>
-    ensures { result ≡ fees_at node first.now least.now most.now }
+fn fees_line(node: Node, words: &[&str]) -> Option<Step<ToyKeys>>
+    ensures { result ≡ fees_line node (texts words.now) }
 {
+    let [first, least, most] = words else {
+        return None;
+    };
     let first = decimal_of(first)?;
     let least = decimal_of(least)?;
     let greatest = decimal_of(most)?;
@@ -52,15 +54,12 @@ fn fees(node: Node, first: &str, least: &str, most: &str) -> Option<Step<ToyKeys
 
 /// set X limits MINIMUM ACCEPTED INFLIGHT RESERVE
 #[tactic(auto, unfolding(crate::specs::Step::limits_at))]
-fn limits(
-    node: Node,
-    minimum: &str,
-    accepted: &str,
-    in_flight: &str,
-    reserve: &str,
-) -> Option<Step<ToyKeys>>
-    ensures { result ≡ limits_at node minimum.now accepted.now in_flight.now reserve.now }
+fn limits_line(node: Node, words: &[&str]) -> Option<Step<ToyKeys>>
+    ensures { result ≡ limits_line node (texts words.now) }
 {
+    let [minimum, accepted, in_flight, reserve] = words else {
+        return None;
+    };
     let minimum = decimal_of(minimum)?;
     let accepted = number_of(accepted, 0xffff)?;
     let in_flight = decimal_of(in_flight)?;
@@ -78,9 +77,12 @@ fn limits(
 
 /// set X policy BASE PROPORTIONAL DELTA
 #[tactic(auto, unfolding(crate::specs::Step::policy_at))]
-fn policy(node: Node, base: &str, proportional: &str, delta: &str) -> Option<Step<ToyKeys>>
-    ensures { result ≡ policy_at node base.now proportional.now delta.now }
+fn policy_line(node: Node, words: &[&str]) -> Option<Step<ToyKeys>>
+    ensures { result ≡ policy_line node (texts words.now) }
 {
+    let [base, proportional, delta] = words else {
+        return None;
+    };
     let base = number_of_32_bits(base)?;
     let proportional = number_of_32_bits(proportional)?;
     let delta = number_of(delta, 0xffff)?;
@@ -92,35 +94,6 @@ fn policy(node: Node, base: &str, proportional: &str, delta: &str) -> Option<Ste
             delta: delta as u16,
         },
     ))
-}
-
-fn fees_line(node: Node, words: &[&str]) -> Option<Step<ToyKeys>>
-    ensures { result ≡ fees_line node (texts words.now) }
-{
-    match words {
-        [first, least, most] => fees(node, first, least, most),
-        _ => None,
-    }
-}
-
-fn limits_line(node: Node, words: &[&str]) -> Option<Step<ToyKeys>>
-    ensures { result ≡ limits_line node (texts words.now) }
-{
-    match words {
-        [minimum, accepted, in_flight, reserve] => {
-            limits(node, minimum, accepted, in_flight, reserve)
-        }
-        _ => None,
-    }
-}
-
-fn policy_line(node: Node, words: &[&str]) -> Option<Step<ToyKeys>>
-    ensures { result ≡ policy_line node (texts words.now) }
-{
-    match words {
-        [base, proportional, delta] => policy(node, base, proportional, delta),
-        _ => None,
-    }
 }
 
 fn setting_of(node: Node, word: &str, words: &[&str]) -> Option<Step<ToyKeys>>
@@ -173,22 +146,16 @@ fn invoice_of(payment: u8, amount: u64) -> Invoice
 
 /// expect X N AMOUNT
 #[tactic(auto, unfolding(crate::specs::Step::expect_at))]
-fn expect(node: &str, payment: &str, amount: &str) -> Option<Step<ToyKeys>>
-    ensures { result ≡ expect_at node.now payment.now amount.now }
+fn expect_line(words: &[&str]) -> Option<Step<ToyKeys>>
+    ensures { result ≡ expect_line (texts words.now) }
 {
+    let [node, payment, amount] = words else {
+        return None;
+    };
     let node = node_of(node)?;
     let payment = payment_of(payment)?;
     let amount = decimal_of(amount)?;
     Some(Step::Expect(node, invoice_of(payment, amount)))
-}
-
-fn expect_line(words: &[&str]) -> Option<Step<ToyKeys>>
-    ensures { result ≡ expect_line (texts words.now) }
-{
-    match words {
-        [node, payment, amount] => expect(node, payment, amount),
-        _ => None,
-    }
 }
 
 /// open C X Y SATOSHIS PUSH
@@ -283,40 +250,14 @@ pub struct Doing {
     what: Act,
 }
 
-/// deliver E
-fn deliver_line(words: &[&str]) -> Option<Doing>
-    ensures { result ≡ deliver_line (texts words.now) }
+/// deliver E, take E or decide E
+fn end_line(what: Act, words: &[&str]) -> Option<Doing>
+    ensures { result ≡ end_line what (texts words.now) }
 {
     match words {
         [end] => Some(Doing {
             end: end_of(end)?,
-            what: Act::Deliver,
-        }),
-        _ => None,
-    }
-}
-
-/// take E
-fn take_line(words: &[&str]) -> Option<Doing>
-    ensures { result ≡ take_line (texts words.now) }
-{
-    match words {
-        [end] => Some(Doing {
-            end: end_of(end)?,
-            what: Act::Take,
-        }),
-        _ => None,
-    }
-}
-
-/// decide E
-fn decide_line(words: &[&str]) -> Option<Doing>
-    ensures { result ≡ decide_line (texts words.now) }
-{
-    match words {
-        [end] => Some(Doing {
-            end: end_of(end)?,
-            what: Act::Decide,
+            what,
         }),
         _ => None,
     }
@@ -403,9 +344,9 @@ fn act_line(alloc: Global, word: &str, words: &[&str]) -> Result<Option<Doing>, 
     ensures fails_for_memory_alone { IfErr result (λ e. e ≡ refusal.Memory) }
 {
     match word {
-        "deliver" => Ok(deliver_line(words)),
-        "take" => Ok(take_line(words)),
-        "decide" => Ok(decide_line(words)),
+        "deliver" => Ok(end_line(Act::Deliver, words)),
+        "take" => Ok(end_line(Act::Take, words)),
+        "decide" => Ok(end_line(Act::Decide, words)),
         "resume" => Ok(resume_line(words)),
         _ => command_line(alloc, word, words),
     }
@@ -422,46 +363,30 @@ fn do_line(alloc: Global, word: &str, words: &[&str]) -> Result<Option<Step<ToyK
     }
 }
 
-/// stop-before LINE
-fn stop_before_line(alloc: Global, words: &[&str]) -> Result<Option<Step<ToyKeys>>, Refusal>
-    ensures step { IfOk result (λ o. o ≡ stop_before_line (texts words.now)) }
-    ensures fails_for_memory_alone { IfErr result (λ e. e ≡ refusal.Memory) }
-{
-    let [word, rest @ ..] = words else {
-        return Ok(None);
-    };
-    match act_line(alloc, word, rest)? {
-        Some(doing) => Ok(Some(Step::StopBefore(doing.end, doing.what))),
-        None => Ok(None),
-    }
+/// What happens round an act.
+#[derive(Clone, Copy)]
+pub enum Round {
+    StopBefore,
+    StopAfter,
+    NoMemory,
 }
 
-/// stop-after LINE
-fn stop_after_line(alloc: Global, words: &[&str]) -> Result<Option<Step<ToyKeys>>, Refusal>
-    ensures step { IfOk result (λ o. o ≡ stop_after_line (texts words.now)) }
+/// LINE, after stop-before, stop-after or no-memory
+fn round_line(alloc: Global, round: Round, words: &[&str]) -> Result<Option<Step<ToyKeys>>, Refusal>
+    ensures step { IfOk result (λ o. o ≡ round_line round (texts words.now)) }
     ensures fails_for_memory_alone { IfErr result (λ e. e ≡ refusal.Memory) }
 {
     let [word, rest @ ..] = words else {
         return Ok(None);
     };
-    match act_line(alloc, word, rest)? {
-        Some(doing) => Ok(Some(Step::StopAfter(doing.end, doing.what))),
-        None => Ok(None),
-    }
-}
-
-/// no-memory LINE
-fn no_memory_line(alloc: Global, words: &[&str]) -> Result<Option<Step<ToyKeys>>, Refusal>
-    ensures step { IfOk result (λ o. o ≡ no_memory_line (texts words.now)) }
-    ensures fails_for_memory_alone { IfErr result (λ e. e ≡ refusal.Memory) }
-{
-    let [word, rest @ ..] = words else {
+    let Some(doing) = act_line(alloc, word, rest)? else {
         return Ok(None);
     };
-    match act_line(alloc, word, rest)? {
-        Some(doing) => Ok(Some(Step::NoMemory(doing.end, doing.what))),
-        None => Ok(None),
-    }
+    Ok(Some(match round {
+        Round::StopBefore => Step::StopBefore(doing.end, doing.what),
+        Round::StopAfter => Step::StopAfter(doing.end, doing.what),
+        Round::NoMemory => Step::NoMemory(doing.end, doing.what),
+    }))
 }
 
 /// The step of a line that is about books or dispatchers, or of what an end does. 60 where there is no memory.
@@ -495,9 +420,9 @@ fn step_of(alloc: Global, word: &str, words: &[&str]) -> Result<Option<Step<ToyK
         "up" => Ok(up_line(words)),
         "down" => Ok(down_line(words)),
         "restart" => Ok(restart_line(words)),
-        "stop-before" => stop_before_line(alloc, words),
-        "stop-after" => stop_after_line(alloc, words),
-        "no-memory" => no_memory_line(alloc, words),
+        "stop-before" => round_line(alloc, Round::StopBefore, words),
+        "stop-after" => round_line(alloc, Round::StopAfter, words),
+        "no-memory" => round_line(alloc, Round::NoMemory, words),
         _ => other_step_of(alloc, word, words),
     }
 }

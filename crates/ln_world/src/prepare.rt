@@ -336,57 +336,6 @@ fn prepare_act<K: ChannelKeys + Copy>(
     }
 }
 
-// An end has no memory for an act. 60 where there is none for that.
-fn prepare_halt<K: ChannelKeys + Copy>(
-    alloc: Global,
-    dispatchers: &Nodes<K>,
-    nodes: &mut Vec<NodeBook>,
-    end: End,
-    what: Act,
-) -> Result<(Option<DispatchStep<K>>, FollowUp), Refusal>
-    ensures plain { IfOk result (λ r. r.0 ≡ plain K.ChannelKeys (step.NoMemory end what)
-        (record { dispatchers = dispatchers.now; nodes = nodes.old.items })) }
-    ensures follow_up { IfOk result (λ r. r.1 ≡ follow_up_of {k = K.ChannelKeys} (step.NoMemory end what)
-        (record { dispatchers = dispatchers.now; nodes = nodes.old.items })) }
-    ensures prepared { OnOk result (nodes.new.items ≡ prepared {k = K.ChannelKeys} (step.NoMemory end what)
-        (record { dispatchers = dispatchers.now; nodes = nodes.old.items })) }
-    ensures fails_for_memory_alone { IfErr result (λ e. e ≡ refusal.Memory) }
-{
-    let is_take = matches!(&what, Act::Take);
-    match leave(alloc, dispatchers, nodes, end, what)? {
-        None => Ok((None, FollowUp::None)),
-        Some(act) => Ok((
-            Some(DispatchStep::NoMemory(end, act)),
-            FollowUp::Halt(end, is_take),
-        )),
-    }
-}
-
-// A node stops before an act of its end. 60 where there is no memory.
-fn prepare_stop_before<K: ChannelKeys + Copy>(
-    alloc: Global,
-    dispatchers: &Nodes<K>,
-    nodes: &mut Vec<NodeBook>,
-    end: End,
-    what: Act,
-) -> Result<(Option<DispatchStep<K>>, FollowUp), Refusal>
-    ensures plain { IfOk result (λ r. r.0 ≡ plain K.ChannelKeys (step.StopBefore end what)
-        (record { dispatchers = dispatchers.now; nodes = nodes.old.items })) }
-    ensures follow_up { IfOk result (λ r. r.1 ≡ follow_up_of {k = K.ChannelKeys} (step.StopBefore end what)
-        (record { dispatchers = dispatchers.now; nodes = nodes.old.items })) }
-    ensures prepared { OnOk result (nodes.new.items ≡ prepared {k = K.ChannelKeys} (step.StopBefore end what)
-        (record { dispatchers = dispatchers.now; nodes = nodes.old.items })) }
-    ensures fails_for_memory_alone { IfErr result (λ e. e ≡ refusal.Memory) }
-{
-    match leave(alloc, dispatchers, nodes, end, what)? {
-        None => Ok((None, FollowUp::None)),
-        Some(act) => Ok((
-            Some(DispatchStep::StopBefore(end, act)),
-            FollowUp::Restart(end.node),
-        )),
-    }
-}
-
 // A node stops after an act of its end that isn't begun: all the same where its book has refused that.
 fn stop_unbegun<K: ChannelKeys + Copy>(
     end: End,
@@ -482,9 +431,21 @@ pub(crate) fn prepare<K: ChannelKeys + Copy>(
         Step::Open(wish) => Ok((Some(DispatchStep::Open(wish)), FollowUp::None)),
         Step::Do(end, what) => prepare_act(alloc, dispatchers, nodes, end, what),
         Step::Down(end) => Ok((Some(DispatchStep::Down(end)), FollowUp::Disconnected(end))),
-        Step::NoMemory(end, what) => prepare_halt(alloc, dispatchers, nodes, end, what),
+        Step::NoMemory(end, what) => {
+            let halt = FollowUp::Halt(end, matches!(&what, Act::Take));
+            match leave(alloc, dispatchers, nodes, end, what)? {
+                None => Ok((None, FollowUp::None)),
+                Some(act) => Ok((Some(DispatchStep::NoMemory(end, act)), halt)),
+            }
+        }
         Step::Restart(node) => Ok((Some(DispatchStep::Restart(node)), FollowUp::Restart(node))),
-        Step::StopBefore(end, what) => prepare_stop_before(alloc, dispatchers, nodes, end, what),
+        Step::StopBefore(end, what) => match leave(alloc, dispatchers, nodes, end, what)? {
+            None => Ok((None, FollowUp::None)),
+            Some(act) => Ok((
+                Some(DispatchStep::StopBefore(end, act)),
+                FollowUp::Restart(end.node),
+            )),
+        },
         Step::StopAfter(end, what) => prepare_stop_after(alloc, dispatchers, nodes, end, what),
         Step::Up(number) => Ok((Some(DispatchStep::Up(number)), FollowUp::Meet(number))),
         Step::Dispatch(end) => Ok((Some(DispatchStep::Dispatch(end)), FollowUp::None)),
