@@ -10,7 +10,8 @@ use Rattle.ln_channel.specs.declared.command.Command.{Command}
 use Rattle.ln_channel.specs.declared.output.Output.{Output}
 use Rattle.ln_channel.specs.State.{State, halts}
 use Rattle.ln_channel.specs.Step.{Done, Reaches, Answered}
-use Rattle.ln_link.specs.Saving.{StoreView, HandsOut, AnswersCommand, AnswersMessage, AnswersOver, taken_alone}
+use Rattle.ln_store.specs.Store.{StoreView}
+use Rattle.ln_link.specs.Saving.{HandsOut, AnswersCommand, AnswersMessage, AnswersOver, taken_alone}
 use Rattle.ln_link.specs.Saving.{is_update, sent_alone, sends_update, handled_beside}
 use Rattle.ln_host.specs.declared.answer.Answer.{Answer}
 use Rattle.ln_host.specs.declared.answer.HostRefusal.{HostRefusal}

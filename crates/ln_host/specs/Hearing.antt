@@ -7,7 +7,7 @@ use Rattle.ln_msgs.specs.Messages.Message.{Wire}
 use Rattle.ln_msgs.specs.Messages.Reply.{reply_to}
 use Rattle.ln_msgs.specs.Messages.Typed.{wire}
 use Rattle.ln_msgs.specs.declared.messages.message.Message.{Message}
-use Rattle.ln_store.specs.Store.{Records}
+use Rattle.ln_store.specs.Store.{Records, in_memory}
 use Rattle.ln_channel.specs.declared.output.Output.{Output}
 use Rattle.ln_channel.specs.declared.machine.ConnectionState.{ConnectionState}
 use Rattle.ln_channel.specs.State.{State, is_down}
@@ -21,7 +21,7 @@ use Rattle.ln_host.specs.declared.seen.Seen.{Seen}
 use Rattle.ln_host.specs.declared.seen.Seen.TheVariants as seen
 use Rattle.ln_host.specs.Answer.{answer_of, keys_told}
 use Rattle.ln_host.specs.Greeting.{channel_of}
-use Rattle.ln_host.specs.Hosted.{Seat, handed, halted, Hands, stored, with_link}
+use Rattle.ln_host.specs.Hosted.{Seat, handed, halted, Hands, with_link}
 use Rattle.ln_host.specs.Keys.{host_signer}
 use Rattle.ln_host.specs.Line.{with_message}
 use Rattle.ln_host.specs.Question.{question_of}
@@ -86,8 +86,8 @@ pub record IsTaken (m : Message) (x : Seen) (result : Result (Unit {0}) Refusal)
   pub answer : Result (List Output) Refusal
   pub link : State HostKeys
   pub records : Records
-  pub answers : AnswersOver (λ os. os) (host_signer s.link.keys) s.link m answer link (stored s.records)
-      (stored records)
+  pub answers : AnswersOver (λ os. os) (host_signer s.link.keys) s.link m answer link (in_memory s.records)
+      (in_memory records)
   pub hears : Heard m x answer (with_link link records s) result new
 
 -- want of memory before the link takes it changes nothing

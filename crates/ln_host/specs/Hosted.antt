@@ -6,7 +6,7 @@ use Rattle.ln_bytes.specs.Same.{are_same}
 use Rattle.ln_refusals.specs.declared.refusal.Refusal.{Refusal}
 use Rattle.ln_refusals.specs.declared.refusal.Refusal.TheVariants as refusal
 use Rattle.ln_hooks.specs.declared.event.ChannelEvent.{ChannelEvent}
-use Rattle.ln_store.specs.Store.{Records}
+use Rattle.ln_store.specs.Store.{Records, in_memory}
 use Rattle.ln_channel.specs.declared.command.Command.{Command}
 use Rattle.ln_channel.specs.declared.machine.Stage.{Stage}
 use Rattle.ln_channel.specs.declared.output.Output.{Output}
@@ -17,7 +17,7 @@ use Rattle.ln_channel.specs.Pending.{pending_at}
 use Rattle.ln_channel.specs.Record.{saved_end}
 use Rattle.ln_channel.specs.State.{State, begun, drops, halts}
 use Rattle.ln_channel.specs.Step.{Answered, commanded, connected}
-use Rattle.ln_link.specs.Saving.{StoreView, AnswersCommand}
+use Rattle.ln_link.specs.Saving.{AnswersCommand}
 use Rattle.ln_host.specs.declared.keys.HostKeys.{HostKeys}
 use Rattle.ln_host.specs.declared.line.Told.{Told}
 use Rattle.ln_host.specs.declared.line.Told.TheVariants as told
@@ -161,9 +161,6 @@ abbrev pub Passes : Result (List Output) Refusal → Seat → Result (Unit {0}) 
 Passes (Ok os) s result new = Hands os s result new
 Passes (Err r) s result new = (result ≡ Err r) × (new ≡ handed [] s)
 
-abbrev pub stored : Records → StoreView
-stored rs = record { records = rs; failed = 0 }
-
 pub record IsConnected (result : Result (Unit {0}) Refusal) (old new : Seat) : Type 0 where
   pub answer : Result (List Output) Refusal
   pub link : State HostKeys
@@ -175,7 +172,7 @@ pub record IsObeyed (c : Command) (result : Result (Unit {0}) Refusal) (old new 
   pub link : State HostKeys
   pub records : Records
   pub answers : AnswersCommand (λ os. os) (commanded (host_signer old.link.keys) old.link c) old.link c answer link
-      (stored old.records) (stored records)
+      (in_memory old.records) (in_memory records)
   pub passes : Passes answer (with_link link records old) result new
 
 -- ---- other calls

@@ -26,11 +26,11 @@ use Rattle.ln_channel.specs.State.{is_down}
 use Rattle.ln_channel.specs.Step.{Done, Reaches, Answered, handled, opened, commanded, connected, connects}
 use Rattle.ln_store.specs.Readable.{is_readable}
 use Rattle.ln_store.specs.Record.{record_bytes}
-use Rattle.ln_store.specs.Store.{Records, IsOneOf}
+use Rattle.ln_store.specs.Store.{Records, IsOneOf, StoreView}
 use Rattle.ln_link.proofs.Refusing.{has_halted}
 use Rattle.ln_link.specs.Record.{items_of}
 use Rattle.ln_link.specs.Loading.{HasRecord}
-use Rattle.ln_link.specs.Saving.{StoreView, HasSaved, IsSaved, IsUnsaved, HandsOut, HaltsUnsaved, SavesFailure}
+use Rattle.ln_link.specs.Saving.{HasSaved, IsSaved, IsUnsaved, HandsOut, HaltsUnsaved, SavesFailure}
 use Rattle.ln_link.specs.Saving.{SavesIf, fails_now, is_known, handled_beside, CannotTell, AnswersOver}
 use Rattle.ln_link.specs.Saving.{HaltsBehind, HaltsRefused, FailsBy}
 use Rattle.ln_link.specs.Saving.{stored_end, reached, settled, AnswersMessage, AnswersCommand}

@@ -11,7 +11,8 @@ use Rattle.ln_channel.specs.declared.output.Output.{Output}
 use Rattle.ln_channel.specs.Record.{saved_end}
 use Rattle.ln_channel.specs.State.{State, refused}
 use Rattle.ln_channel.specs.Step.{Done, commanded}
-use Rattle.ln_link.specs.Saving.{StoreView, HandsOut, HaltsUnsaved, HaltsBehind, HaltsRefused, SavesFailure, fails_now}
+use Rattle.ln_store.specs.Store.{StoreView}
+use Rattle.ln_link.specs.Saving.{HandsOut, HaltsUnsaved, HaltsBehind, HaltsRefused, SavesFailure, fails_now}
 use Rattle.ln_link.specs.Saving.{AnswersMessage, AnswersCommand, AnswersOver, handled_beside, settled}
 use Rattle.ln_link.specs.Saving.{is_update, sends_update, taken_alone, sent_alone}
 use Rattle.ln_link.specs.Calls.{Call, Handle, Command, Connect, DropConnection, Halt, Leads, Lead}

@@ -12,3 +12,4 @@ pub mod Halting
 pub mod Written
 pub mod Uncovered
 pub mod Saved
+pub mod Fresh

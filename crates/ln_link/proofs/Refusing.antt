@@ -14,10 +14,10 @@ use Rattle.ln_channel.specs.State.{State, failed, refused, IsHalted}
 use Rattle.ln_channel.specs.Step.{Done, AnsweredMessage, handled, opened}
 use Rattle.ln_channel.specs.State.{halts}
 use Rattle.ln_channel.specs.Record.{saved_end}
-use Rattle.ln_link.specs.Saving.{StoreView, Refuses, IsSaved, IsUnsaved, HaltsRefused, SavesIf}
+use Rattle.ln_link.specs.Saving.{Refuses, IsSaved, IsUnsaved, HaltsRefused, SavesIf}
 use Rattle.ln_link.specs.Saving.{is_failing, fails_now, AnswersMessage, AnswersOver, is_known}
 use Rattle.ln_link.specs.Saving.{handled_beside}
-use Rattle.ln_store.specs.Store.{Records}
+use Rattle.ln_store.specs.Store.{Records, StoreView}
 
 -- a link without a failure, by whether the refusal is one
 by_refusal : {K : Type 0} (r : Refusal) (keys : K) (connection : ConnectionState) (s : Stage) (b : Bool)
@@ -108,13 +108,6 @@ after_refusal_of outs said l m n msg e e' before behind healthy h a r =
 
 -- ---- a channel that the store knows
 
--- a store that was asked
-asked : (rs rs' : Records) (f f' : ℕ) → rs' ≡ rs → f' ≡ f
-    → let behind : StoreView = record { records = rs'; failed = f' } in
-    behind ≡ record { records = rs; failed = f }
-asked rs rs' f f' p q =
-    ap (λ (x : Records). record { records = x; failed = f' }) p ∙ ap (λ (x : ℕ). record { records = rs; failed = x }) q
-
 -- it doesn't know the channel
 pub unknown : {K : Type 0} (rs : Records) (known : Bool) (channel : Option (List ℕ)) (l : State K) (m : Message)
     → known ≡ false → known ≡ is_known channel rs → channel ≡ opened l m → false ≡ is_known (opened l m) rs
@@ -122,24 +115,20 @@ unknown rs known channel l m isnt told is = sym isnt ∙ told ∙ ap (λ (o : Op
 
 -- the message opens none that it knows
 pub taken_over : {K V : Type 0} (outs : V → List Output) (keys : Signer) (l n : State K) (m : Message)
-    (answer : Result V Refusal) (rs rs' : Records) (f f' : ℕ) (behind : StoreView) → false ≡ is_known (opened l m) rs
-    → rs' ≡ rs → f' ≡ f
-    → AnswersMessage outs (handled keys l m) l m answer n (record { records = rs'; failed = f' }) behind
-    → AnswersOver outs keys l m answer n (record { records = rs; failed = f }) behind
-taken_over {K} {V} outs keys l n m answer rs rs' f f' behind unknown p q a = by answer a
+    (answer : Result V Refusal) (s s' behind : StoreView) → false ≡ is_known (opened l m) s.records → s' ≡ s
+    → AnswersMessage outs (handled keys l m) l m answer n s' behind → AnswersOver outs keys l m answer n s behind
+taken_over {K} {V} outs keys l n m answer s s' behind unknown same a = by answer a
   where
-    says : handled_beside rs keys l m ≡ handled keys l m
+    says : handled_beside s.records keys l m ≡ handled keys l m
     says = ap (λ (b : Bool). if b then Err refusal.OutOfPlace else handled keys l m) (sym unknown)
 
-    over : (r : Result V Refusal)
-        → AnswersMessage outs (handled keys l m) l m r n (record { records = rs'; failed = f' }) behind
-        → AnswersMessage outs (handled_beside rs keys l m) l m r n (record { records = rs; failed = f }) behind
+    over : (r : Result V Refusal) → AnswersMessage outs (handled keys l m) l m r n s' behind
+        → AnswersMessage outs (handled_beside s.records keys l m) l m r n s behind
     over r x =
-        subst (λ said. AnswersMessage outs said l m r n (record { records = rs; failed = f }) behind) (sym says)
-        (subst (λ s. AnswersMessage outs (handled keys l m) l m r n s behind) (asked rs rs' f f' p q) x)
+        subst (λ said. AnswersMessage outs said l m r n s behind) (sym says)
+        (subst (λ t. AnswersMessage outs (handled keys l m) l m r n t behind) same x)
 
-    by : (r : Result V Refusal)
-        → AnswersMessage outs (handled keys l m) l m r n (record { records = rs'; failed = f' }) behind
-        → AnswersOver outs keys l m r n (record { records = rs; failed = f }) behind
+    by : (r : Result V Refusal) → AnswersMessage outs (handled keys l m) l m r n s' behind
+        → AnswersOver outs keys l m r n s behind
     by (Ok v) x = over (Ok v) x
     by (Err e) x = inr (over (Err e) x)

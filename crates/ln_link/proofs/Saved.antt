@@ -10,7 +10,8 @@ use Rattle.ln_channel.specs.Base.{based_link}
 use Rattle.ln_channel.specs.Record.{saved_end}
 use Rattle.ln_channel.specs.State.{State, StandsFor}
 use Rattle.ln_channel.specs.Step.{Done, Reaches}
-use Rattle.ln_link.specs.Saving.{StoreView, SavesIf, SavesChange, Keeps, Settles, HandsOut, HaltsAnswered}
+use Rattle.ln_store.specs.Store.{StoreView}
+use Rattle.ln_link.specs.Saving.{SavesIf, SavesChange, Keeps, Settles, HandsOut, HaltsAnswered}
 use Rattle.ln_link.specs.Saving.{HaltsBehind, is_update, taken_alone, is_forgotten, base_in, has_same_record, reached}
 
 -- it is saved, and handed out

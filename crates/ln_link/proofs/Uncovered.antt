@@ -45,10 +45,10 @@ use Rattle.ln_channel.specs.Step.{noted}
 use Rattle.ln_channel.proofs.Based.{between_none}
 use Rattle.ln_store.specs.Readable.{is_readable}
 use Rattle.ln_store.specs.Record.{record_bytes}
-use Rattle.ln_store.specs.Store.{Records}
+use Rattle.ln_store.specs.Store.{Records, StoreView}
 use Rattle.ln_link.specs.Record.{header_of, agreement_of, commitments_of, updates_of, progress_of, items_of}
 use Rattle.ln_link.specs.Loading.{HasRecord}
-use Rattle.ln_link.specs.Saving.{StoreView, is_update, sends_update, taken_alone, sent_alone, is_forgotten, is_based}
+use Rattle.ln_link.specs.Saving.{is_update, sends_update, taken_alone, sent_alone, is_forgotten, is_based}
 use Rattle.ln_link.specs.Saving.{has_same_record, is_known, handled_beside, settled}
 use Rattle.ln_link.specs.Calls.{Has, HasLink}
 

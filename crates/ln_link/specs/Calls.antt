@@ -10,11 +10,11 @@ use Rattle.ln_channel.specs.End.{End}
 use Rattle.ln_channel.specs.Record.{saved_end}
 use Rattle.ln_channel.specs.State.{State, KeepsChannel, refused, drops, halts}
 use Rattle.ln_channel.specs.Step.{Done, commanded, connected, Answered}
-use Rattle.ln_store.specs.Store.{Records}
+use Rattle.ln_store.specs.Store.{Records, StoreView}
 use Rattle.ln_store.specs.Record.{record_bytes}
 use Rattle.ln_link.specs.Record.{items_of}
 use Rattle.ln_link.specs.Loading.{HasRecord}
-use Rattle.ln_link.specs.Saving.{StoreView, AnswersOver, AnswersCommand, handled_beside, settled}
+use Rattle.ln_link.specs.Saving.{AnswersOver, AnswersCommand, handled_beside, settled}
 
 pub data Call : Type 0 where
   Handle : (m : Message) → Call

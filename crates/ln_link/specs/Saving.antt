@@ -1,5 +1,5 @@
 -- A link saves before it hands out: what each call leaves in its store.
-use Rattle.std.specs.Prelude.{◌≡◌, ◌⊎◌, ℕ, List, length, Bool, true, false, not, ◌&&◌, ◌==◌, nat_lt, Option, Some}
+use Rattle.std.specs.Prelude.{◌≡◌, ◌⊎◌, ℕ, List, length, Bool, true, false, not, ◌&&◌, ◌||◌, ◌==◌, nat_lt, Option, Some}
 use Rattle.std.specs.Prelude.{None, is_none, Result, Ok, Err, is_some, if◌then◌else◌}
 use Rattle.std.specs.FinMap as map
 use Rattle.ln_bytes.specs.Answers.{fault_of}
@@ -23,23 +23,20 @@ use Rattle.ln_channel.specs.Failing.{fails}
 use Rattle.ln_channel.specs.Opening.{LacksBy}
 use Rattle.ln_channel.specs.State.{State, StandsFor, refused, halts, IsHalted}
 use Rattle.ln_channel.specs.Step.{Done, makes_view, handled, opened}
-use Rattle.ln_store.specs.Store.{Records, IsOneOf}
+use Rattle.ln_store.specs.Store.{Records, StoreView, IsOneOf, FreshIfChanged}
 use Rattle.ln_store.specs.Record.{record_bytes}
 use Rattle.ln_link.specs.Record.{items_of, NoRecord}
 use Rattle.ln_link.specs.Loading.{HasRecord}
-
--- a store as a call finds it or leaves it: its records, and how many of its calls have failed
-pub record StoreView : Type 0 where
-  pub records : Records
-  pub failed : ℕ
 
 -- the record of a channel stands for its end, once both have signed the opening
 abbrev pub stored_end : Option Refusal → Option End → Records → Records
 stored_end failure (Some e) rs = map.insert rs e.dance.channel (record_bytes (items_of failure e))
 stored_end failure None rs = rs
 
-abbrev pub with_records : Records → StoreView → StoreView
-with_records rs s = record { records = rs; failed = s.failed }
+-- a store that was saved to has it, and is fresh
+abbrev pub with_end : Option Refusal → Option End → StoreView → StoreView
+with_end failure o s =
+    record s { records = stored_end failure o s.records; is_fresh = is_some o || s.is_fresh }
 
 -- the end that is saved has a record
 abbrev pub HasSaved : Option Refusal → Option End → Type 0
@@ -63,11 +60,12 @@ pub record IsUnsaved (e : Refusal) (failure : Option Refusal) (o : Option End)
     (before behind : StoreView) : Type 0 where
   pub cause : FailsBy e failure o before.failed behind.failed
   pub one_of_both : IsOneOf e before.records (stored_end failure o before.records) behind.records
+  pub fresh : FreshIfChanged before behind
 
 -- the end has a record, and the store has it
 abbrev pub IsSaved : Option Refusal → Option End → StoreView → StoreView → Type 0
 IsSaved failure o before behind =
-    HasSaved failure o × (behind ≡ with_records (stored_end failure o before.records) before)
+    HasSaved failure o × (behind ≡ with_end failure o before)
 
 -- saved where it has to be
 abbrev pub SavesIf : Bool → Option Refusal → Option End → StoreView → StoreView → Type 0
@@ -261,6 +259,7 @@ pub record IsUntold {K : Type 0} (e : Refusal) (channel : Option (List ℕ)) (l 
   pub cause : CannotTell e channel before.failed behind.failed
   pub halts : StandsFor new (halts l)
   pub records : behind.records ≡ before.records
+  pub fresh : behind.is_fresh ≡ before.is_fresh
 
 -- a message, over a store
 abbrev pub AnswersOver : {K V : Type 0} → (V → List Output) → Signer → State K → Message → Result V Refusal → State K

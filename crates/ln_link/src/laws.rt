@@ -8,7 +8,7 @@ ghost use Rattle.ln_channel.specs.End.{End, end_dropped};
 ghost use Rattle.ln_channel.specs.State.{State, kept_channel};
 ghost use Rattle.ln_link.specs.Record.{items_of};
 ghost use Rattle.ln_link.specs.Loading.{IsLoadable, HasRecord, IsReadAgain, end_of};
-ghost use Rattle.ln_link.specs.Saving.{StoreView};
+ghost use Rattle.ln_store.specs.Store.{StoreView, FreshIfChanged};
 ghost use Rattle.ln_link.specs.Calls.{Call, Lead, HasLink, HasChannel, HaltsWithRecord};
 
 use ln_keys::ChannelKeys;
@@ -43,4 +43,10 @@ pub fn store_has_the_record<K: ChannelKeys>()
         → HaltsWithRecord keys calls l s s' }
     ensures of_the_channel { (keys : Signer) (channel : List ℕ) (calls : List Call) (l l' : State K) (s s' : StoreView)
         → HasLink l s → kept_channel l.stage ≡ Some channel → Lead keys calls l s l' s' → HasChannel channel s' }
+{}
+
+/// A law: over any calls of one link, a store whose records they have changed is fresh.
+pub fn changed_stores_are_fresh<K: ChannelKeys>()
+    ensures { (keys : Signer) (calls : List Call) (l l' : State K) (s s' : StoreView) → Lead keys calls l s l' s'
+        → FreshIfChanged s s' }
 {}

@@ -52,8 +52,7 @@ fn save_end<S: RecordStore>(
     channel: &Channel,
 ) -> Result<(), Refusal>
     ensures { (e : End) → end.StandsFor channel.now e → Saves failure (Some e) result
-        (record { records = S.records store.old; failed = S.failed store.old })
-        (record { records = S.records store.new; failed = S.failed store.new }) }
+        (S.store_view store.old) (S.store_view store.new) }
 {
     let record = to_record(alloc, failure, channel)?;
     let bytes = match encode_record(alloc, &record) {
@@ -81,8 +80,7 @@ fn save_link<K: ChannelKeys + Drop, S: RecordStore>(
     link: &ChannelMachine<K>,
 ) -> Result<(), Refusal>
     ensures { (l : State K) → StandsFor link.now l → Saves l.failure (saved_end l.stage) result
-        (record { records = S.records store.old; failed = S.failed store.old })
-        (record { records = S.records store.new; failed = S.failed store.new }) }
+        (S.store_view store.old) (S.store_view store.new) }
 {
     let failure = link.failure();
     match link.saved() {
@@ -189,10 +187,12 @@ fn is_known<S: RecordStore>(
     store: &mut S,
     channel: Option<[u8; 32]>,
 ) -> Result<bool, Refusal>
-    ensures known { IfOk result (λ b. b ≡ is_known channel (S.records store.old)) }
-    ensures changes_no_record { S.records store.new ≡ S.records store.old }
-    ensures counts_no_failure { OnOk result (S.failed store.new ≡ S.failed store.old) }
-    ensures fails_by_the_store { IfErr result (λ e. CannotTell e channel (S.failed store.old) (S.failed store.new)) }
+    ensures known { IfOk result (λ b. b ≡ is_known channel (S.store_view store.old).records) }
+    ensures changes_no_record { (S.store_view store.new).records ≡ (S.store_view store.old).records }
+    ensures stays_fresh { (S.store_view store.new).is_fresh ≡ (S.store_view store.old).is_fresh }
+    ensures counts_no_failure { OnOk result ((S.store_view store.new).failed ≡ (S.store_view store.old).failed) }
+    ensures fails_by_the_store { IfErr result (λ e.
+        CannotTell e channel (S.store_view store.old).failed (S.store_view store.new).failed) }
 {
     match channel {
         None => Ok(false),
@@ -308,8 +308,7 @@ impl<K: ChannelKeys + Drop> Link<K> {
     // Saves the link, or halts it.
     fn save<S: RecordStore>(&mut self, alloc: Global, store: &mut S) -> Result<(), Refusal>
         ensures keeps { (l : State K) → StandsFor self.old l → Keeps result l self.new
-            (record { records = S.records store.old; failed = S.failed store.old })
-            (record { records = S.records store.new; failed = S.failed store.new }) }
+            (S.store_view store.old) (S.store_view store.new) }
         ensures same_channel { KeepsChannel self.old.stage self.new.stage }
     {
         match save_link(alloc, store, &self.channel_machine) {
@@ -329,8 +328,7 @@ impl<K: ChannelKeys + Drop> Link<K> {
         brought: Option<Side>,
     ) -> Result<(), Refusal>
         ensures settles { (l : State K) → StandsFor self.old l → Settles brought result l self.new
-            (record { records = S.records store.old; failed = S.failed store.old })
-            (record { records = S.records store.new; failed = S.failed store.new }) }
+            (S.store_view store.old) (S.store_view store.new) }
         ensures same_channel { KeepsChannel self.old.stage self.new.stage }
     {
         let forgotten = is_forgotten(&self.channel_machine, brought);
@@ -363,8 +361,7 @@ impl<K: ChannelKeys + Drop> Link<K> {
     ) -> Result<Vec<Output>, Refusal>
         ensures answers { (l : State K) → StandsFor self.old l
             → AnswersOver (λ v. v.items) (K.signer l.keys) l message result self.new
-            (record { records = S.records store.old; failed = S.failed store.old })
-            (record { records = S.records store.new; failed = S.failed store.new }) }
+            (S.store_view store.old) (S.store_view store.new) }
         ensures same_channel { KeepsChannel self.old.stage self.new.stage }
     {
         match is_known(alloc, store, self.channel_machine.opens(&message)) {
@@ -390,8 +387,7 @@ impl<K: ChannelKeys + Drop> Link<K> {
     ) -> Result<Vec<Output>, Refusal>
         ensures answers { (l : State K) → StandsFor self.old l
             → AnswersMessage (λ v. v.items) (handled (K.signer l.keys) l message) l message result self.new
-            (record { records = S.records store.old; failed = S.failed store.old })
-            (record { records = S.records store.new; failed = S.failed store.new }) }
+            (S.store_view store.old) (S.store_view store.new) }
         ensures same_channel { KeepsChannel self.old.stage self.new.stage }
     {
         let healthy = is_healthy(&self.channel_machine);
@@ -421,8 +417,7 @@ impl<K: ChannelKeys + Drop> Link<K> {
     ) -> Refusal
         ensures refuses { (l : State K) → StandsFor self.old l
             → Refuses (is_failing l && healthy) refusal result l self.new
-            (record { records = S.records store.old; failed = S.failed store.old })
-            (record { records = S.records store.new; failed = S.failed store.new }) }
+            (S.store_view store.old) (S.store_view store.new) }
         ensures same_channel { KeepsChannel self.old.stage self.new.stage }
     {
         if !healthy
@@ -449,8 +444,7 @@ impl<K: ChannelKeys + Drop> Link<K> {
     ) -> Result<Vec<Output>, Refusal>
         ensures answers { (l : State K) → StandsFor self.old l
             → AnswersCommand (λ v. v.items) (commanded (K.signer l.keys) l command) l command result self.new
-            (record { records = S.records store.old; failed = S.failed store.old })
-            (record { records = S.records store.new; failed = S.failed store.new }) }
+            (S.store_view store.old) (S.store_view store.new) }
         ensures same_channel { KeepsChannel self.old.stage self.new.stage }
     {
         let brought = sent_alone(sends_update(&command));

@@ -17,7 +17,8 @@ use Rattle.ln_channel.specs.State.{State, refused, fails_by, unless_failed, cut,
 use Rattle.ln_channel.specs.Step.{Done, Answered, faulted, at_hand, handled, opened, asked, commanded, connects}
 use Rattle.ln_channel.specs.Step.{connected, Reaches}
 use Rattle.ln_channel.specs.State.{is_down}
-use Rattle.ln_link.specs.Saving.{StoreView, CannotBeStored, FailsBy, IsUnsaved, HandsOut, HaltsBehind, HaltsRefused}
+use Rattle.ln_store.specs.Store.{StoreView}
+use Rattle.ln_link.specs.Saving.{CannotBeStored, FailsBy, IsUnsaved, HandsOut, HaltsBehind, HaltsRefused}
 use Rattle.ln_link.specs.Saving.{fails_now, reached, settled, is_known, handled_beside, CannotTell, AnswersMessage}
 use Rattle.ln_link.specs.Saving.{AnswersCommand, AnswersOver, is_update, sends_update, taken_alone, sent_alone}
 use Rattle.ln_link.specs.Loading.{IsLoadedOf, CameBack}

@@ -10,7 +10,8 @@ use Rattle.ln_channel.specs.State.{State, begun, drops, halts}
 use Rattle.ln_channel.specs.Step.{commanded, connected, Answered}
 use Rattle.ln_channel_laws.specs.Widths.{IsCommand}
 use Rattle.ln_link.specs.Loading.{ComesBackOf, IsCameBack}
-use Rattle.ln_link.specs.Saving.{StoreView, AnswersOver, AnswersCommand}
+use Rattle.ln_store.specs.Store.{StoreView}
+use Rattle.ln_link.specs.Saving.{AnswersOver, AnswersCommand}
 use Rattle.ln_link.specs.Calls.{Call, Handle, Command, Connect, DropConnection, Halt, Lead, made_by}
 use Rattle.ln_link_laws.specs.Handed.{IsMessage, IsConfig, IsSpec}
 

@@ -11,7 +11,7 @@ ghost use Rattle.ln_channel.specs.declared.output.Output.{Output};
 ghost use Rattle.ln_channel.specs.State.{State};
 ghost use Rattle.ln_store.specs.declared.record.Items.{Items};
 ghost use Rattle.ln_store.specs.Readable.{is_readable};
-ghost use Rattle.ln_link.specs.Saving.{StoreView};
+ghost use Rattle.ln_store.specs.Store.{StoreView};
 ghost use Rattle.ln_link.specs.Calls.{Call};
 ghost use Rattle.ln_link_laws.specs.Handed.{AreKeys};
 ghost use Rattle.ln_link_laws.specs.Course.{IsCall, Gives, IsLink, AreSendable};

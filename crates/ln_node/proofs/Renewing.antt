@@ -4,7 +4,7 @@ use Rattle.ln_refusals.specs.declared.refusal.Refusal.{Refusal}
 use Rattle.ln_keys.specs.Signer.{Signer}
 use Rattle.ln_channel.specs.declared.output.Output.{Output}
 use Rattle.ln_channel.specs.State.{State}
-use Rattle.ln_link.specs.Saving.{StoreView}
+use Rattle.ln_store.specs.Store.{StoreView}
 use Rattle.ln_node_loops.specs.Act.{Connects, Loads}
 use Rattle.ln_node_loops.specs.Sent.{loaded}
 use Rattle.ln_node.specs.declared.opening.Beginning.{Beginning}

@@ -4,7 +4,7 @@ use Rattle.std.specs.FinMap as map
 use Rattle.ln_channel.specs.End.{End}
 use Rattle.ln_channel.specs.Record.{saved_end}
 use Rattle.ln_channel.specs.State.{State}
-use Rattle.ln_store.specs.Store.{Records}
+use Rattle.ln_store.specs.Store.{Records, StoreView}
 use Rattle.ln_store.specs.Record.{record_at}
 use Rattle.ln_link.specs.Loading.{Loads}
 use Rattle.ln_book.specs.Rebuild.{ChannelSnapshot, rebuilt}
@@ -27,9 +27,9 @@ abbrev pub ComesFrom : {K : Type 0} → K → Option (List ℕ) → State K → 
 ComesFrom keys None link = ⊥
 ComesFrom keys (Some bytes) link = Loads keys (record_at bytes) (Ok link)
 
-module _ {K S T : Type 0} (records : S → Records) where
+module _ {K S T : Type 0} (store_view : S → StoreView) where
   abbrev pub IsLoaded : Stored K S T → Loaded K S T → Type 0
-  IsLoaded s l = ComesFrom s.keys (first_record (records s.store)) l.end.saved.value.link
+  IsLoaded s l = ComesFrom s.keys (first_record (store_view s.store).records) l.end.saved.value.link
 
   -- all of them, in their order
   abbrev pub AreLoaded : List (Stored K S T) → List (Loaded K S T) → Type 0
@@ -50,7 +50,7 @@ channel_snapshots_of [] = []
 channel_snapshots_of (l ∷ ls) = snapshot_by (loaded_end l) ++ channel_snapshots_of ls
 
 -- a book that begins with what the links have that come back from these stores
-abbrev pub BeginsWithAll : {K S T : Type 0} → (S → Records) → List (Stored K S T) → History Table Entry → Type 0
-BeginsWithAll {K} {S} {T} records stored b =
-    (ls : List (Loaded K S T)) × AreLoaded records stored ls
+abbrev pub BeginsWithAll : {K S T : Type 0} → (S → StoreView) → List (Stored K S T) → History Table Entry → Type 0
+BeginsWithAll {K} {S} {T} store_view stored b =
+    (ls : List (Loaded K S T)) × AreLoaded store_view stored ls
     × (b ≡ begun_with (rebuilt no_table (channel_snapshots_of ls)))

@@ -533,7 +533,7 @@ where
         R::Listener: Send + 'static,
         ensures asks_by_the_policy { IfOk result (λ n. policy_of n ≡ policy) }
         ensures greets_so { IfOk result (λ n. greeting_of n ≡ greeting) }
-        ensures begins_with_all_channels { IfOk result (λ n. BeginsWithAll S.records stored.items (begun_of n)) }
+        ensures begins_with_all_channels { IfOk result (λ n. BeginsWithAll S.store_view stored.items (begun_of n)) }
         ensures has_all_channels { IfOk result (λ n. channel_count n ≡ length stored.items) }
     {
         let monitor = Monitor::new(alloc)?;

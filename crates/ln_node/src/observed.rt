@@ -19,9 +19,7 @@ pub(crate) struct ObservedStore<S: Drop> {
 }
 
 impl<S: RecordStore + Drop> RecordStore for ObservedStore<S> {
-    ghost records = { λ s. S.records s.inner };
-
-    ghost failed = { λ s. S.failed s.inner };
+    ghost store_view = { λ s. S.store_view s.inner };
 
     fn save(&mut self, alloc: Global, id: &[u8; 32], bytes: &[u8]) -> Result<(), Refusal> {
         let answer = self.inner.save(alloc, id, bytes);

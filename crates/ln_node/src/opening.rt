@@ -245,10 +245,7 @@ impl<K: ChannelKeys + Copy, S: RecordStore + Drop> End for NodeLink<K, S> {
       saved = record {
         keys = e.saved.value.keys;
         link = e.saved.value.link;
-        store_view = record {
-          records = S.records e.saved.value.store.inner;
-          failed = S.failed e.saved.value.store.inner;
-        };
+        store_view = S.store_view e.saved.value.store.inner;
       };
       beginning = e.beginning.value;
     } };

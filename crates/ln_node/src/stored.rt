@@ -44,7 +44,7 @@ pub(crate) struct Loaded<K: ChannelKeys + Copy, S: Drop, T: Drop> {
 
 // The first record in a store.
 fn first_record<S: RecordStore>(alloc: Global, store: &mut S) -> Result<Option<Bytes>, Refusal>
-    ensures finds { IfOk result (λ found. found ≡ first_record (S.records store.old)) }
+    ensures finds { IfOk result (λ found. found ≡ first_record (S.store_view store.old).records) }
 {
     let ids = store.ids(alloc)?;
     match ids.first() {
@@ -73,7 +73,7 @@ fn load<K: ChannelKeys + Copy, S: RecordStore>(
     keys: K,
     store: &mut S,
 ) -> Result<Link<K>, Refusal>
-    ensures comes_back { IfOk result (λ l. ComesFrom keys (first_record (S.records store.old)) l) }
+    ensures comes_back { IfOk result (λ l. ComesFrom keys (first_record (S.store_view store.old).records) l) }
 {
     match first_record(alloc, store) {
         Ok(found) => come_back(alloc, keys, found),
@@ -87,7 +87,8 @@ fn load_end<K: ChannelKeys + Copy, S: RecordStore + Drop>(
     keys: K,
     store: ObservedStore<S>,
 ) -> Result<NodeLink<K, S>, Refusal>
-    ensures comes_back { IfOk result (λ n. ComesFrom keys (first_record (S.records store.inner)) n.saved.value.link) }
+    ensures comes_back { IfOk result (λ n.
+        ComesFrom keys (first_record (S.store_view store.inner).records) n.saved.value.link) }
 {
     let mut store = store;
     match load(alloc, keys, &mut store) {
@@ -103,7 +104,7 @@ fn load_one<K: ChannelKeys + Copy, S: RecordStore + Drop, T: Drop>(
     channel: usize,
     stored: Stored<K, S, T>,
 ) -> Result<Loaded<K, S, T>, Refusal>
-    ensures comes_back { IfOk result (λ l. IsLoaded S.records stored l) }
+    ensures comes_back { IfOk result (λ l. IsLoaded S.store_view stored l) }
 {
     let Stored {
         keys,
@@ -130,7 +131,7 @@ pub(crate) fn load_all<K: ChannelKeys + Copy, S: RecordStore + Drop, T: Drop>(
     monitor: &Arc<Monitor>,
     stored: Vec<Stored<K, S, T>>,
 ) -> Result<Vec<Loaded<K, S, T>>, Refusal>
-    ensures come_back { IfOk result (λ v. AreLoaded S.records stored.items v.items) }
+    ensures come_back { IfOk result (λ v. AreLoaded S.store_view stored.items v.items) }
     ensures are_as_many { IfOk result (λ v. length v.items ≡ length stored.items) }
 {
     let mut loaded = Vec::new(alloc);

@@ -115,9 +115,7 @@ fn is_denied(left: &AtomicU64) -> bool {
 }
 
 impl<S: RecordStore + Drop> RecordStore for DenyingStore<S> {
-    ghost records = { λ s. S.RecordStore.records s.inner };
-
-    ghost failed = { λ s. s.failed };
+    ghost store_view = { λ s. record (S.RecordStore.store_view s.inner) { failed = s.failed } };
 
     fn save(&mut self, alloc: Global, id: &[u8; 32], bytes: &[u8]) -> Result<(), Refusal> {
         match self.inner.save(alloc, id, bytes) {

@@ -8,9 +8,10 @@ use Rattle.ln_channel.specs.declared.command.Command.{Command}
 use Rattle.ln_channel.specs.declared.output.Output.{Output}
 use Rattle.ln_channel.specs.State.{State, kept_channel}
 use Rattle.ln_channel.specs.Step.{Done, Reaches, Answered}
-use Rattle.ln_link.specs.Saving.{StoreView, HandsOut, AnswersOver, AnswersCommand, CannotTell, handled_beside}
+use Rattle.ln_link.specs.Saving.{HandsOut, AnswersOver, AnswersCommand, CannotTell, handled_beside}
 use Rattle.ln_link.specs.Saving.{is_update, sends_update, taken_alone, sent_alone}
-use Rattle.ln_store.specs.Store.{Records}
+use Rattle.ln_store.specs.Store.{StoreView}
+use Rattle.ln_store.proofs.Asked.{asked}
 use Rattle.ln_node_loops.specs.Sent.{listed, loaded}
 use Rattle.ln_node_loops.specs.Saved.{Saved, record_in, ComesBack, LoadsRecord}
 
@@ -47,20 +48,14 @@ module _ {K V : Type 0} (outs : V → List Output) (l : State K) (new : State K)
 
 -- ---- a load
 
-abbrev store_view : Records → ℕ → StoreView
-store_view records failed = record { records = records; failed = failed }
-
-store_view-same : (s s' : StoreView) → s'.records ≡ s.records → s'.failed ≡ s.failed → s' ≡ s
-store_view-same s s' one two = ap (λ r. store_view r s'.failed) one ∙ ap (λ f. store_view s.records f) two
-
 pub loads-found : {K : Type 0} (s s' : Saved K) (found : Option (List ℕ)) (answer : Result (Unit {0}) Refusal)
     → ComesBack s.keys found (loaded answer) s.link s'.link
     → found ≡ record_in s.store_view.records (kept_channel s.link.stage)
     → s'.store_view.records ≡ s.store_view.records → s'.store_view.failed ≡ s.store_view.failed
-    → LoadsRecord s (loaded answer) s'
-loads-found s s' found answer comes is records failed = inr (
+    → s'.store_view.is_fresh ≡ s.store_view.is_fresh → LoadsRecord s (loaded answer) s'
+loads-found s s' found answer comes is records failed fresh = inr (
   subst (λ o. ComesBack s.keys o (loaded answer) s.link s'.link) is comes,
-  store_view-same s.store_view s'.store_view records failed,
+  asked s.store_view s'.store_view records failed fresh,
 )
 
 pub loads-none : {K : Type 0} (s s' : Saved K) (e : Refusal)

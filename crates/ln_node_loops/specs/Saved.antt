@@ -7,10 +7,10 @@ use Rattle.ln_keys.specs.Signer.{Signer}
 use Rattle.ln_channel.specs.declared.output.Output.{Output}
 use Rattle.ln_channel.specs.State.{State, kept_channel, drops}
 use Rattle.ln_channel.specs.Step.{commanded, connected, Answered}
-use Rattle.ln_store.specs.Store.{Records}
+use Rattle.ln_store.specs.Store.{Records, StoreView}
 use Rattle.ln_store.specs.Record.{record_at}
 use Rattle.ln_link.specs.Loading as loading
-use Rattle.ln_link.specs.Saving.{StoreView, AnswersOver, AnswersCommand, CannotTell}
+use Rattle.ln_link.specs.Saving.{AnswersOver, AnswersCommand, CannotTell}
 use Rattle.ln_node_loops.specs.Act.{Act, Handles, Obeys, Connects, Drops, Loads}
 
 -- a link with its store, and the keys with which it comes back

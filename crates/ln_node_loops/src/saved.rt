@@ -37,10 +37,12 @@ fn record_in<S: RecordStore>(
     store: &mut S,
     channel: Option<ChannelId>,
 ) -> Result<Option<Bytes>, Refusal>
-    ensures finds { IfOk result (λ found. found ≡ record_in (S.records store.old) channel) }
-    ensures changes_no_record { S.records store.new ≡ S.records store.old }
-    ensures counts_no_failure { OnOk result (S.failed store.new ≡ S.failed store.old) }
-    ensures fails_by_the_store { IfErr result (λ e. CannotTell e channel (S.failed store.old) (S.failed store.new)) }
+    ensures finds { IfOk result (λ found. found ≡ record_in (S.store_view store.old).records channel) }
+    ensures changes_no_record { (S.store_view store.new).records ≡ (S.store_view store.old).records }
+    ensures counts_no_failure { OnOk result ((S.store_view store.new).failed ≡ (S.store_view store.old).failed) }
+    ensures stays_fresh { (S.store_view store.new).is_fresh ≡ (S.store_view store.old).is_fresh }
+    ensures fails_by_the_store { IfErr result (λ e.
+        CannotTell e channel (S.store_view store.old).failed (S.store_view store.new).failed) }
 {
     match channel {
         None => Ok(None),
@@ -99,7 +101,7 @@ impl<K: ChannelKeys + Copy, S: RecordStore + Drop> End for SavedLink<K, S> {
     ghost state = { λ s. record {
       keys = s.keys;
       link = s.link;
-      store_view = record { records = S.records s.store; failed = S.failed s.store };
+      store_view = S.store_view s.store;
     } };
 
     ghost acts = { acts K.signer };

@@ -58,9 +58,9 @@ impl FileRecords {
 }
 
 impl RecordStore for FileRecords {
-    ghost records = { λ s. s.store.copies };
+    ghost use Rattle.std.specs.Prelude.{true};
 
-    ghost failed = { λ s. s.store.failures };
+    ghost store_view = { λ s. record { records = s.store.copies; failed = s.store.failures; is_fresh = true } };
 
     fn save(&mut self, alloc: Global, id: &[u8; 32], bytes: &[u8]) -> Result<(), Refusal> {
         self.store.save(alloc, id, bytes)

@@ -139,7 +139,7 @@ impl<S: Alter> SqliteStore<S> {
 }
 
 impl<S: Alter> RecordStore for SqliteStore<S> {
-    ghost use Rattle.std.specs.Prelude.{◌≡◌, IsTrue, IfOk, IfErr, OnOk, OnErr};
+    ghost use Rattle.std.specs.Prelude.{◌≡◌, true, IsTrue, IfOk, IfErr, OnOk, OnErr};
     ghost use Rattle.std.specs.FinMap as map;
     ghost use Rattle.sqlite.specs.Held.{state};
     ghost use Rattle.sqlite.specs.State.{HasCleanDisk};
@@ -148,9 +148,7 @@ impl<S: Alter> RecordStore for SqliteStore<S> {
     ghost use Rattle.ln_sqlite.specs.Holds.{KeepsTable, IsTableOf, StopLeaves};
     ghost use Rattle.ln_sqlite.specs.Shown.{IsRecordOf, AreIdsOf};
 
-    ghost records = { λ s. s.copies };
-
-    ghost failed = { λ s. s.failures };
+    ghost store_view = { λ s. record { records = s.copies; failed = s.failures; is_fresh = true } };
 
     /// Errors: 60 where there is no memory, before the database is asked; 61 where it failed. No record has changed
     /// then.

@@ -1,4 +1,5 @@
 mod Maps
+pub mod Asked
 pub mod Formats
 pub mod Laws
 pub mod Loops

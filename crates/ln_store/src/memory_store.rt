@@ -58,10 +58,9 @@ impl MemoryStore {
 impl RecordStore for MemoryStore {
     ghost use Rattle.std.specs.Prelude.{◌≡◌, IfOk, IfErr, OnOk, OnErr};
     ghost use Rattle.std.specs.FinMap as map;
+    ghost use Rattle.ln_store.specs.Store.{in_memory};
 
-    ghost records = { λ s. s };
-
-    ghost failed = { λ _. 0 };
+    ghost store_view = { in_memory };
 
     /// Error: 60 alone, where there is no memory; nothing has changed then.
     fn save(&mut self, alloc: Global, id: &[u8; 32], bytes: &[u8]) -> Result<(), Refusal>

@@ -25,9 +25,9 @@ impl Gauged for FailingRecords {
 }
 
 impl RecordStore for FailingRecords {
-    ghost records = { λ s. s.store.inner };
+    ghost use Rattle.std.specs.Prelude.{true};
 
-    ghost failed = { λ s. s.store.failed };
+    ghost store_view = { λ s. record { records = s.store.inner; failed = s.store.failed; is_fresh = true } };
 
     fn save(&mut self, alloc: Global, id: &[u8; 32], bytes: &[u8]) -> Result<(), Refusal> {
         self.gauge.stirs();

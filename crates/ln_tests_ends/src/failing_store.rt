@@ -49,9 +49,7 @@ fn counted(failed: &mut u64, refusal: Refusal) -> Refusal
 }
 
 impl<S: RecordStore + Drop> RecordStore for FailingStore<S> {
-    ghost records = { λ s. S.RecordStore.records s.inner };
-
-    ghost failed = { λ s. s.failed };
+    ghost store_view = { λ s. record (S.RecordStore.store_view s.inner) { failed = s.failed } };
 
     fn save(&mut self, alloc: Global, id: &[u8; 32], bytes: &[u8]) -> Result<(), Refusal> {
         let fails = self.saves_left == 0;

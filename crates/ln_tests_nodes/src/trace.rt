@@ -144,9 +144,7 @@ struct Full<S: Drop> {
 }
 
 impl<S: RecordStore + Drop> RecordStore for Full<S> {
-    ghost records = { λ s. S.records s.inner };
-
-    ghost failed = { λ s. S.failed s.inner };
+    ghost store_view = { λ s. S.store_view s.inner };
 
     fn save(&mut self, _alloc: Global, _id: &[u8; 32], _bytes: &[u8]) -> Result<(), Refusal> {
         Err(Refusal::Memory)

@@ -72,9 +72,7 @@ fn log_save<R: Log>(rt: &R, id: &[u8; 32], save: Save) {
 }
 
 impl<S: RecordStore + Drop, R: Log + Clock + Drop> RecordStore for LoggedStore<S, R> {
-    ghost records = { λ s. S.records s.inner };
-
-    ghost failed = { λ s. S.failed s.inner };
+    ghost store_view = { λ s. S.store_view s.inner };
 
     fn save(&mut self, alloc: Global, id: &[u8; 32], bytes: &[u8]) -> Result<(), Refusal> {
         let is_timed = log_enabled!(self.rt; target: STORE, Level::Debug);

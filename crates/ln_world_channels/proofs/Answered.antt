@@ -8,7 +8,8 @@ use Rattle.ln_channel.specs.declared.machine.Stage.TheVariants as stage
 use Rattle.ln_channel.specs.Base.{based_stage}
 use Rattle.ln_channel.specs.State.{State, numbers_of}
 use Rattle.ln_channel.specs.Step.{Done}
-use Rattle.ln_link.specs.Saving.{StoreView, HandsOut}
+use Rattle.ln_store.specs.Store.{StoreView}
+use Rattle.ln_link.specs.Saving.{HandsOut}
 use Rattle.ln_world_channels.specs.declared.step.End.{End}
 use Rattle.ln_world_channels.specs.Lines.{lines_of}
 use Rattle.ln_world_channels.specs.Both.{Both, SimEnd, reaches, answers, left, as_saved, sent_by, answer_lines}

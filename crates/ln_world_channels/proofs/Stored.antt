@@ -28,13 +28,13 @@ use Rattle.ln_channel.specs.State.{refused}
 use Rattle.ln_channel.specs.Step.{Done, Reaches, Answered, handled, opened, commanded, connected}
 use Rattle.ln_store.specs.Readable.{is_readable}
 use Rattle.ln_store.specs.Record.{record_bytes}
-use Rattle.ln_store.specs.Store.{Records}
+use Rattle.ln_store.specs.Store.{Records, StoreView, in_memory}
 use Rattle.ln_store.specs.declared.record.Items.{Items}
 use Rattle.ln_link.specs.Record.{items_of}
 use Rattle.ln_link.specs.Loading.{Loads, HasRecord, IsLoadedOf, ComesBackOf, CameBack, IsCameBack, end_of}
 use Rattle.ln_link.specs.Calls as call
 use Rattle.ln_link.specs.Calls.{Call, Handle, Connect, DropConnection, Leads, Has, HasLink}
-use Rattle.ln_link.specs.Saving.{StoreView, FailsBy, SavesIf, SavesFailure, HandsOut, HaltsBehind}
+use Rattle.ln_link.specs.Saving.{FailsBy, SavesIf, SavesFailure, HandsOut, HaltsBehind}
 use Rattle.ln_link.specs.Saving.{HaltsRefused, AnswersMessage, AnswersCommand, AnswersOver, CannotBeStored, CannotTell}
 use Rattle.ln_link.specs.Saving.{stored_end, settled, fails_now, is_known, handled_beside, has_same_record}
 use Rattle.ln_link.specs.Saving.{is_update, sends_update, taken_alone, sent_alone}
@@ -159,7 +159,7 @@ module _ {K : Type 0} (keys : Signer) where
       → Has f (saved_end (cut st)) rs
   cut_has k f st rs h =
       let l : State K = record { keys = k; connection = Connected; halted = false; failure = f; stage = st } in
-      let s : StoreView = record { records = rs; failed = 0 } in
+      let s : StoreView = in_memory rs in
       has_record keys (DropConnection ∷ []) l (drops l) s s h (drops l, s, (refl, refl), cut_channel st, (refl, refl))
       refl
 
@@ -408,7 +408,7 @@ module _ {K : Type 0} (keys : Signer) where
     where
       by : (said : Result Done Refusal) → connected keys l ≡ said → Reaches outs said l v n → IsKept n rs
       by (Ok d) is r =
-          let s : StoreView = record { records = rs; failed = 0 } in record {
+          let s : StoreView = in_memory rs in record {
             has_the_record = has_behind Connect l n s s (ap (λ (x : State K). x.halted) r.1 ∙ up) keeps
                 (Ok (outs v), subst (λ x. Reaches (λ y. y) x l (outs v) n) (sym is) (r.0, r.1), refl) k;
             has_nothing_before = stays_empty l.failure l.stage n.stage rs rs keeps (inl refl) k.has_nothing_before;

@@ -1,6 +1,6 @@
 use Rattle.std.proofs.Common.{Ok, Err, refl}
 use Rattle.ln_channel.specs.Step.{commanded}
-use Rattle.ln_host.specs.Hosted.{stored}
+use Rattle.ln_store.specs.Store.{in_memory}
 use Rattle.ln_host.specs.Keys.{host_signer}
 use Rattle.ln_host.proofs.Passing.{outputs_in, command_listed}
 use Rattle.ln_host.proofs.host_link.HostLink.command.Goals as goal
@@ -14,7 +14,7 @@ returns-in-Ok c =
         link = c.command.new.self;
         records = c.command.new.store;
         answers = command_listed outputs_in (commanded (host_signer l.keys) l c.args.command) l c.args.command
-            (Ok c.in-Ok.outputs) c.command.new.self (stored c.args.self.now.store) (stored c.command.new.store)
+            (Ok c.in-Ok.outputs) c.command.new.self (in_memory c.args.self.now.store) (in_memory c.command.new.store)
             (c.in-Ok.ensures.answers l refl);
         passes = c.queue.ensures.hands;
       };
@@ -29,7 +29,7 @@ returns-in-Err c =
         link = c.command.new.self;
         records = c.command.new.store;
         answers = command_listed outputs_in (commanded (host_signer l.keys) l c.args.command) l c.args.command
-            (Err c.in-Err.refusal) c.command.new.self (stored c.args.self.now.store) (stored c.command.new.store)
+            (Err c.in-Err.refusal) c.command.new.self (in_memory c.args.self.now.store) (in_memory c.command.new.store)
             (c.in-Err.ensures.answers l refl);
         passes = (refl, c.put_record.ensures);
       };

@@ -12,12 +12,6 @@ returns-in-Ok-clause-refuses g c = λ l s.
     ap (λ b. (not b && not (is_none l.failure)) && c.args.healthy) up
     ∙ ap (λ b. not (not b) && c.args.healthy) some ∙ c.if-not-healthy.false in
     subst (λ b. Refuses b c.args.refusal c.args.refusal l c.save.new.self
-    (record {
-      records = g.S.RecordStore.records c.args.store.now;
-      failed = g.S.RecordStore.failed c.args.store.now;
-    })
-    (record {
-      records = g.S.RecordStore.records c.save.new.store;
-      failed = g.S.RecordStore.failed c.save.new.store;
-    })) (sym failing)
+    (g.S.RecordStore.store_view c.args.store.now)
+    (g.S.RecordStore.store_view c.save.new.store)) (sym failing)
     (let kept = c.in-Ok.ensures.keeps l s in inl (refl, kept.0, kept.1))

@@ -8,14 +8,7 @@ unfolding acts
 returns g c = (
   refl,
   message-listed c.handle.result (λ v. v.items) c.args.self.now.link c.handle.new.self
-      (record {
-        records = g.S.RecordStore.records c.args.self.now.store;
-        failed = g.S.RecordStore.failed c.args.self.now.store;
-      })
-      (record {
-        records = g.S.RecordStore.records c.handle.new.store;
-        failed = g.S.RecordStore.failed c.handle.new.store;
-      })
+      (g.S.RecordStore.store_view c.args.self.now.store) (g.S.RecordStore.store_view c.handle.new.store)
       (g.K.ChannelKeys.signer c.args.self.now.link.keys) c.args.message
       (c.handle.ensures.answers c.args.self.now.link refl),
 )

@@ -9,8 +9,9 @@ unfolding acts
 returns-in-Ok g c = (
   refl,
   loads-found _ _ c.in-Ok.found c.come_back.result c.come_back.ensures
-      (c.in-Ok.ensures.finds ∙ ap (record_in (g.S.RecordStore.records c.args.self.now.store)) c.id-id.ensures)
-      c.in-Ok.ensures.changes_no_record c.in-Ok.ensures.counts_no_failure,
+      (c.in-Ok.ensures.finds
+      ∙ ap (record_in (g.S.RecordStore.store_view c.args.self.now.store).records) c.id-id.ensures)
+      c.in-Ok.ensures.changes_no_record c.in-Ok.ensures.counts_no_failure c.in-Ok.ensures.stays_fresh,
 )
 
 pub returns-in-Err : goal.returns-in-Err
@@ -18,7 +19,7 @@ unfolding acts
 returns-in-Err g c = (
   refl,
   loads-none _ _ c.in-Err.refusal
-      (subst (λ o. CannotTell c.in-Err.refusal o (g.S.RecordStore.failed c.args.self.now.store)
-      (g.S.RecordStore.failed c.record_in.new.store)) c.id-id.ensures c.in-Err.ensures.fails_by_the_store)
+      (subst (λ o. CannotTell c.in-Err.refusal o (g.S.RecordStore.store_view c.args.self.now.store).failed
+      (g.S.RecordStore.store_view c.record_in.new.store).failed) c.id-id.ensures c.in-Err.ensures.fails_by_the_store)
       refl c.in-Err.ensures.changes_no_record,
 )

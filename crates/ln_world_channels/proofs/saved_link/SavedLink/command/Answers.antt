@@ -1,6 +1,7 @@
 use Rattle.std.proofs.Common.{◌≡◌, ◌∙◌, refl, sym, ap, subst, Ok, Err, Vec, Global}
 use Rattle.ln_channel.specs.State.{State}
 use Rattle.ln_channel.specs.Step.{commanded}
+use Rattle.ln_store.specs.Store.{in_memory}
 use Rattle.ln_link.specs.Saving.{sends_update, sent_alone}
 use Rattle.ln_world_channels.specs.Both.{left, unchanged, as_saved}
 use Rattle.ln_world_channels.specs.Failing.{ByRecord, LinkLacks}
@@ -13,8 +14,8 @@ pub invariant_of-self : goal.invariant_of-self
 invariant_of-self g c =
     (command_taken (g.K.ChannelKeys.signer c.self.inside.link.keys) (λ v. v.items) c.self.inside.link
     c.command.new.self c.args.command
-    c.in-Ok.outputs (record { records = c.self.inside.store; failed = 0 })
-    (record { records = c.command.new.store; failed = 0 }) (sym c.has_halted.ensures ∙ c.if-has_halted.false)
+    c.in-Ok.outputs (in_memory c.self.inside.store)
+    (in_memory c.command.new.store) (sym c.has_halted.ensures ∙ c.if-has_halted.false)
     c.in-Ok.ensures.same_channel (c.in-Ok.ensures.answers c.self.inside.link refl) c.self.invariant).kept
 
 pub returns-then-has_halted-2-clause-fails : goal.returns-then-has_halted-2-clause-fails
@@ -24,8 +25,8 @@ returns-then-has_halted-2-clause-fails g c =
     (command_halted (g.K.ChannelKeys.signer c.self.inside.link.keys) {V = Vec Output Global} (λ v. v.items)
     (commanded (g.K.ChannelKeys.signer c.self.inside.link.keys) c.self.inside.link c.args.command) c.self.inside.link
     c.command.new.self c.args.command
-    c.in-Err.why (record { records = c.self.inside.store; failed = 0 })
-    (record { records = c.command.new.store; failed = 0 }) (sym c.has_halted.ensures ∙ c.if-has_halted.false)
+    c.in-Err.why (in_memory c.self.inside.store)
+    (in_memory c.command.new.store) (sym c.has_halted.ensures ∙ c.if-has_halted.false)
     (sym c.has_halted-in-Err.ensures ∙ c.if-has_halted-2.true) refl refl (c.in-Err.ensures.answers c.self.inside.link
     refl))
 
@@ -34,8 +35,8 @@ invariant_of-self-else-has_halted-2 g c =
     (command_refused (g.K.ChannelKeys.signer c.self.inside.link.keys) {V = Vec Output Global} (λ v. v.items)
     (commanded (g.K.ChannelKeys.signer c.self.inside.link.keys) c.self.inside.link c.args.command) c.self.inside.link
     c.command.new.self c.args.command
-    c.in-Err.why (record { records = c.self.inside.store; failed = 0 })
-    (record { records = c.command.new.store; failed = 0 }) (sym c.has_halted-in-Err.ensures ∙ c.if-has_halted-2.false)
+    c.in-Err.why (in_memory c.self.inside.store)
+    (in_memory c.command.new.store) (sym c.has_halted-in-Err.ensures ∙ c.if-has_halted-2.false)
     (c.in-Err.ensures.answers c.self.inside.link refl) c.self.invariant).kept
 
 pub returns-in-Ok-clause-said : goal.returns-in-Ok-clause-said
@@ -48,12 +49,12 @@ returns-in-Ok-clause-said g c =
     (said_so (λ os. sent_alone (sends_update c.args.command)) (λ v. v.items)
     (commanded (g.K.ChannelKeys.signer c.self.inside.link.keys) c.self.inside.link
     c.args.command)
-    c.self.inside.link c.command.new.self c.in-Ok.outputs (record { records = c.self.inside.store; failed = 0 })
-    (record { records = c.command.new.store; failed = 0 })
+    c.self.inside.link c.command.new.self c.in-Ok.outputs (in_memory c.self.inside.store)
+    (in_memory c.command.new.store)
     (command_taken (g.K.ChannelKeys.signer c.self.inside.link.keys) (λ v. v.items) c.self.inside.link
     c.command.new.self c.args.command
-    c.in-Ok.outputs (record { records = c.self.inside.store; failed = 0 })
-    (record { records = c.command.new.store; failed = 0 }) (sym c.has_halted.ensures ∙ c.if-has_halted.false)
+    c.in-Ok.outputs (in_memory c.self.inside.store)
+    (in_memory c.command.new.store) (sym c.has_halted.ensures ∙ c.if-has_halted.false)
     c.in-Ok.ensures.same_channel (c.in-Ok.ensures.answers c.self.inside.link refl) c.self.invariant).handed)
 
 pub returns-in-Ok-clause-link : goal.returns-in-Ok-clause-link
@@ -64,12 +65,12 @@ returns-in-Ok-clause-link g c =
     (left_so (λ os. sent_alone (sends_update c.args.command)) (λ v. v.items) unchanged
     (commanded (g.K.ChannelKeys.signer c.self.inside.link.keys) c.self.inside.link
     c.args.command)
-    c.self.inside.link c.command.new.self c.in-Ok.outputs (record { records = c.self.inside.store; failed = 0 })
-    (record { records = c.command.new.store; failed = 0 })
+    c.self.inside.link c.command.new.self c.in-Ok.outputs (in_memory c.self.inside.store)
+    (in_memory c.command.new.store)
     (command_taken (g.K.ChannelKeys.signer c.self.inside.link.keys) (λ v. v.items) c.self.inside.link
     c.command.new.self c.args.command
-    c.in-Ok.outputs (record { records = c.self.inside.store; failed = 0 })
-    (record { records = c.command.new.store; failed = 0 }) (sym c.has_halted.ensures ∙ c.if-has_halted.false)
+    c.in-Ok.outputs (in_memory c.self.inside.store)
+    (in_memory c.command.new.store) (sym c.has_halted.ensures ∙ c.if-has_halted.false)
     c.in-Ok.ensures.same_channel (c.in-Ok.ensures.answers c.self.inside.link refl) c.self.invariant).handed)
 
 pub returns-else-has_halted-2-clause-said : goal.returns-else-has_halted-2-clause-said
@@ -80,8 +81,8 @@ returns-else-has_halted-2-clause-said g c =
     (λ v. v.items) (commanded (g.K.ChannelKeys.signer c.self.inside.link.keys) c.self.inside.link c.args.command)
     c.self.inside.link
     c.command.new.self c.args.command
-    c.in-Err.why (record { records = c.self.inside.store; failed = 0 })
-    (record { records = c.command.new.store; failed = 0 }) (sym c.has_halted-in-Err.ensures ∙ c.if-has_halted-2.false)
+    c.in-Err.why (in_memory c.self.inside.store)
+    (in_memory c.command.new.store) (sym c.has_halted-in-Err.ensures ∙ c.if-has_halted-2.false)
     (c.in-Err.ensures.answers c.self.inside.link refl) c.self.invariant).said_so)
 
 pub returns-else-has_halted-2-clause-link : goal.returns-else-has_halted-2-clause-link
@@ -89,8 +90,8 @@ returns-else-has_halted-2-clause-link g c =
     let x = command_refused (g.K.ChannelKeys.signer c.self.inside.link.keys) {V = Vec Output Global} (λ v. v.items)
     (commanded (g.K.ChannelKeys.signer c.self.inside.link.keys) c.self.inside.link c.args.command) c.self.inside.link
     c.command.new.self c.args.command
-    c.in-Err.why (record { records = c.self.inside.store; failed = 0 })
-    (record { records = c.command.new.store; failed = 0 }) (sym c.has_halted-in-Err.ensures ∙ c.if-has_halted-2.false)
+    c.in-Err.why (in_memory c.self.inside.store)
+    (in_memory c.command.new.store) (sym c.has_halted-in-Err.ensures ∙ c.if-has_halted-2.false)
     (c.in-Err.ensures.answers c.self.inside.link refl) c.self.invariant in
     subst (λ (x : State _). c.command.new.self ≡ left unchanged (commanded (g.K.ChannelKeys.signer x.keys) x
     c.args.command) x)
