@@ -6,7 +6,6 @@ ghost use Rattle.ln_host_node.specs.Asked.{asked};
 use crate::node::HostNode;
 use crate::seat::Seat;
 use ln_channel::ChannelMachine;
-use ln_dance::Numbers;
 use ln_host::{Answer, HostKeys, HostRefusal, Question, Seen, answer_of, question_about, seen_in};
 use ln_keys::Role;
 use ln_library::read;
@@ -36,15 +35,6 @@ fn question_in(
     message: &Message,
 ) -> Result<Option<Question>, Refusal> {
     Ok(asked(question_about(alloc, machine, message)?))
-}
-
-// Whether a channel of these numbers has taken the message in which this was seen.
-fn is_taken(seen: &Seen, numbers: Numbers) -> bool {
-    match seen {
-        Seen::Nothing => false,
-        Seen::Signatures(held) => numbers.commitment == held.number,
-        Seen::Secret(secret) => secret.number < numbers.revoked,
-    }
 }
 
 impl HostNode {
@@ -103,6 +93,9 @@ impl HostNode {
         answer: &[u8],
     ) -> Result<(Answer, Seen), HostRefusal> {
         let machine = self.machine(channel)?;
+        if machine.is_halted() {
+            return Err(HostRefusal::Refused(Refusal::Halted));
+        }
         let question = question_in(alloc, machine, message)?;
         let answer = answer_of(&question, answer)?;
         let seen = seen_in(alloc, &question, message)?;
@@ -158,27 +151,15 @@ impl HostNode {
                 return Err(refusal);
             }
         };
-        let done = self.manager.message(alloc, channel, keys, message);
-        self.keep(channel, seen);
+        let (is_taken, done) = self.manager.message(alloc, channel, keys, message);
+        self.keep(channel, is_taken, seen);
         done
     }
 
-    // The numbers of a channel.
-    fn numbers(&self, channel: usize) -> Option<Numbers> {
-        match self.manager.machine(channel) {
-            None => None,
-            Some(machine) => Some(machine.numbers()),
-        }
-    }
-
-    // What a message had that the chain may need, where the channel has taken it: also where it has halted then.
-    fn keep(&mut self, channel: usize, seen: Seen) {
-        let taken = match self.numbers(channel) {
-            None => false,
-            Some(numbers) => is_taken(&seen, numbers),
-        };
+    // What a message had that the chain may need, where the channel has taken it.
+    fn keep(&mut self, channel: usize, is_taken: bool, seen: Seen) {
         match self.seats.get_mut(channel) {
-            Some(seat) if taken => seat.keep(seen),
+            Some(seat) if is_taken => seat.keep(seen),
             _ => drop(seen),
         }
     }

@@ -1,2 +1,3 @@
-pub mod Events
 pub mod Batches
+pub mod Events
+pub mod Managed

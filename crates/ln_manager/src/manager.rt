@@ -1,5 +1,9 @@
 //! A routing node without threads.
 
+ghost use Rattle.std.specs.Prelude.{◌≡◌, ◌||◌, true, List};
+ghost use Rattle.ln_manager.specs.Managed.{ChangesOneAt, if_batched};
+ghost use Rattle.ln_manager_channels.specs.Moves.{none_fresh};
+
 use crate::batch::{Batch, SavedRecord};
 use crate::posted::Posted;
 use crate::turns::Turns;
@@ -13,15 +17,16 @@ use ln_hooks::{ChannelEvent, Verdict};
 use ln_host::{Filling, blank_of, channel_of};
 use ln_keys::{ChannelKeys, Onion};
 use ln_log::{ChannelId, Mark};
-use ln_manager_channels::{Channels, Given, Saved, event_count};
+use ln_manager_channels::{Channels, Given, Newest, Saved, event_count};
 use ln_msgs::Message;
 use ln_refusals::Refusal;
 use std::alloc::Global;
+use std::marker::Model;
 
 /// A routing node without threads: many channels, told by their numbers 0, 1, .. in the order in which they were added,
 /// and one book of payments. A call does all that is due, of its channel and of those that it makes due. What it hands
 /// out waits: messages in a line for each channel, events, and records in batches over all channels; a message leaves
-/// once all records are saved that had changed as it came.
+/// once all records are saved that had changed as it came. A record that has changed stands in the open batch.
 pub struct Manager<K: ChannelKeys + Drop, O: Onion + Drop> {
     channels: Channels<K>,
     onion: O,
@@ -38,6 +43,24 @@ pub struct Manager<K: ChannelKeys + Drop, O: Onion + Drop> {
     unsigned: Turns,
     // These may have an event for the host.
     untold: Turns,
+    // A record has changed that no batch could take: no message waits from now on, and no batch is closed.
+    is_spent: bool,
+}
+
+impl<K: ChannelKeys + Drop, O: Onion + Drop> Model for Manager<K, O> {
+    ghost use Rattle.std.specs.Coded.{codes};
+    ghost use Rattle.std.specs.Prelude.{◌≡◌, ◌||◌, true};
+    ghost use Rattle.ln_store.specs.contracts.memory_store.MemoryStore as store;
+    ghost use Rattle.ln_manager.specs.Managed.{Managed};
+    ghost use Rattle.ln_manager_channels.specs.Moves.{none_fresh};
+
+    ghost Value = { Managed K };
+
+    ghost coded = { Prim.hlevel (codes, store.the_row.coded) };
+
+    ghost view = { λ m. record { channels = m.channels; lines = m.lines; is_out = m.is_out.items } };
+
+    ghost invariant = { λ m. (m.is_spent || none_fresh m.channels.parts.records) ≡ true };
 }
 
 // By hand: crates above don't prove again how its parts are dropped.
@@ -54,6 +77,7 @@ impl<K: ChannelKeys + Drop, O: Onion + Drop> Drop for Manager<K, O> {
             due,
             unsigned,
             untold,
+            is_spent: _,
         } = self;
         drop(channels);
         drop(onion);
@@ -71,6 +95,55 @@ fn target_of(mark: &Mark) -> Option<ChannelId> {
     match mark {
         Mark::Forward { channel, .. } => Some(*channel),
         _ => None,
+    }
+}
+
+// The record of a channel, of which alone this call has changed any, stands in the open batch where it has changed; or
+// else its link halts, and nothing leaves any more. Errors: 46, 60.
+fn batch<K: ChannelKeys + Drop>(
+    channels: &mut Channels<K>,
+    lines: &mut Lines<Posted>,
+    is_spent: &mut bool,
+    channel: usize,
+) -> Result<(), Refusal>
+    ensures leaves_none_out { (rs : List Newest) → ChangesOneAt channel rs channels.old.parts.records
+        → (is_spent.old || none_fresh rs) ≡ true
+        → (is_spent.new || none_fresh channels.new.parts.records) ≡ true }
+{
+    match channels.batch(lines, channel) {
+        Ok(()) => Ok(()),
+        Err(refusal) => {
+            channels.halt(channel);
+            *is_spent = true;
+            Err(refusal)
+        }
+    }
+}
+
+// What a link has answered, unless its record stands in no batch.
+fn if_batched<T: Drop>(
+    batched: Result<(), Refusal>,
+    answer: Result<T, Refusal>,
+) -> Result<T, Refusal>
+    ensures { result ≡ if_batched batched answer }
+{
+    match batched {
+        Ok(()) => answer,
+        Err(refusal) => {
+            drop(answer);
+            Err(refusal)
+        }
+    }
+}
+
+// What became of a command, unless the record stands in no batch: the link has halted then.
+fn given_if(batched: Result<(), Refusal>, given: Given) -> Given {
+    match batched {
+        Ok(()) => given,
+        Err(_) => {
+            drop(given);
+            Given::Halted
+        }
     }
 }
 
@@ -94,9 +167,12 @@ impl<K: ChannelKeys + Drop, O: Onion + Drop> Manager<K, O> {
     ghost use Rattle.ln_manager.specs.Events.{may_decide};
     ghost use Rattle.ln_manager.specs.Batches.{listed, record_of, records_of};
     ghost use Rattle.ln_manager_channels.specs.Links.{end_in};
+    ghost use Rattle.ln_manager_channels.specs.Moves.{none_fresh};
 
-    // Over these channels.
-    fn over(alloc: Global, onion: O, policy: Policy, channels: Channels<K>) -> Manager<K, O> {
+    // Over these channels, whose records stand in batches.
+    fn over(alloc: Global, onion: O, policy: Policy, channels: Channels<K>) -> Manager<K, O>
+        requires { none_fresh channels.parts.records ≡ true }
+    {
         Manager {
             channels,
             onion,
@@ -108,6 +184,7 @@ impl<K: ChannelKeys + Drop, O: Onion + Drop> Manager<K, O> {
             due: Turns::new(alloc),
             unsigned: Turns::new(alloc),
             untold: Turns::new(alloc),
+            is_spent: false,
         }
     }
 
@@ -209,7 +286,7 @@ impl<K: ChannelKeys + Drop, O: Onion + Drop> Manager<K, O> {
         txid: [u8; 32],
         output: u16,
     ) -> Result<(), Refusal>
-        ensures marks_stay { self.new.is_out.items ≡ self.old.is_out.items }
+        ensures marks_stay { self.new.is_out ≡ self.old.is_out }
     {
         self.channels.name_funding(channel, txid, output)
     }
@@ -218,7 +295,7 @@ impl<K: ChannelKeys + Drop, O: Onion + Drop> Manager<K, O> {
 
     // What the book commands may be due in the channel of this id.
     fn list_due(&mut self, id: Option<ChannelId>)
-        ensures marks_stay { self.new.is_out.items ≡ self.old.is_out.items }
+        ensures marks_stay { self.new.is_out ≡ self.old.is_out }
     {
         let Some(id) = id else {
             return;
@@ -237,7 +314,7 @@ impl<K: ChannelKeys + Drop, O: Onion + Drop> Manager<K, O> {
     }
 
     fn note_use(&mut self, channel: usize, used: Use)
-        ensures marks_stay { self.new.is_out.items ≡ self.old.is_out.items }
+        ensures marks_stay { self.new.is_out ≡ self.old.is_out }
     {
         if let Some(told) = self.told_uses.get_mut(channel) {
             *told = Some(used);
@@ -246,7 +323,7 @@ impl<K: ChannelKeys + Drop, O: Onion + Drop> Manager<K, O> {
 
     // The book hears which payments an end takes, where that is news. Error: 60 alone.
     fn follow(&mut self, channel: usize) -> Result<(), Refusal>
-        ensures marks_stay { self.new.is_out.items ≡ self.old.is_out.items }
+        ensures marks_stay { self.new.is_out ≡ self.old.is_out }
     {
         let Some(used) = self.channels.use_of(channel) else {
             return Ok(());
@@ -259,48 +336,48 @@ impl<K: ChannelKeys + Drop, O: Onion + Drop> Manager<K, O> {
         Ok(())
     }
 
-    // A link halts, and what waits for its connection is lost. Where its record has changed, that belongs to the open
-    // batch, since what the book has heard of it goes on in other channels. The book hears, where there is memory for
-    // it, that it takes no payments.
+    // A link halts, and what waits for its connection is lost. The book hears, where there is memory for it, that it
+    // takes no payments.
     fn halt(&mut self, channel: usize)
-        ensures marks_stay { self.new.is_out.items ≡ self.old.is_out.items }
+        ensures marks_stay { self.new.is_out ≡ self.old.is_out }
     {
         self.channels.halt(channel);
-        drop(self.note_record(channel));
         self.lines.lose(channel);
         drop(self.follow(channel));
     }
 
-    // Whether the record of a channel has changed since a batch had it.
-    fn is_fresh(&self, channel: usize) -> bool {
-        match self.channels.record(channel) {
-            None => false,
-            Some(newest) => newest.is_fresh,
-        }
-    }
-
-    // A record that has changed belongs to the open batch. Errors: 60, 46.
-    fn note_record(&mut self, channel: usize) -> Result<(), Refusal>
-        ensures marks_stay { self.new.is_out.items ≡ self.old.is_out.items }
+    // Whether each record that has changed stands in a batch. Error: 46 where one doesn't.
+    fn leaves_none_out(&self) -> Result<(), Refusal>
+        ensures { OnOk result (none_fresh self.now.channels.parts.records ≡ true) }
     {
-        if self.is_fresh(channel) {
-            let events = event_count(self.channels.end(channel));
-            self.lines.change(channel, events)?;
-            self.channels.note_batched(channel);
+        if self.is_spent {
+            return Err(Refusal::NumbersSpent);
         }
         Ok(())
     }
 
+    // A message waits in the line of its channel, after all records that have changed. Errors: 60, 46.
+    fn push(&mut self, channel: usize, posted: Posted) -> Result<(), Refusal>
+        ensures marks_stay { self.new.is_out ≡ self.old.is_out }
+        ensures after_each_change { OnOk result (none_fresh self.old.channels.parts.records ≡ true) }
+    {
+        if let Err(refusal) = self.leaves_none_out() {
+            drop(posted);
+            return Err(refusal);
+        }
+        self.lines.push(channel, posted)
+    }
+
     // A message waits in the line of its channel, with what is blank in it as the link is now. Errors: 60, 46.
     fn post(&mut self, alloc: Global, channel: usize, message: Message) -> Result<(), Refusal>
-        ensures marks_stay { self.new.is_out.items ≡ self.old.is_out.items }
+        ensures marks_stay { self.new.is_out ≡ self.old.is_out }
     {
         let blank = match self.channels.machine(channel) {
             None => Ok(None),
             Some(machine) => blank_of(alloc, machine, &message),
         };
         match blank {
-            Ok(blank) => self.lines.push(channel, Posted { message, blank }),
+            Ok(blank) => self.push(channel, Posted { message, blank }),
             Err(refusal) => {
                 drop(message);
                 Err(refusal)
@@ -310,7 +387,7 @@ impl<K: ChannelKeys + Drop, O: Onion + Drop> Manager<K, O> {
 
     // The book hears an event of a channel, by which another one may be due. Error: 60 alone.
     fn hear(&mut self, alloc: Global, channel: usize, number: u64) -> Result<(), Refusal>
-        ensures marks_stay { self.new.is_out.items ≡ self.old.is_out.items }
+        ensures marks_stay { self.new.is_out ≡ self.old.is_out }
     {
         let other = self.channels.hear(alloc, channel, number)?;
         self.list_due(other);
@@ -318,7 +395,7 @@ impl<K: ChannelKeys + Drop, O: Onion + Drop> Manager<K, O> {
     }
 
     fn hand_on_one(&mut self, alloc: Global, channel: usize, output: Output) -> Result<(), Refusal>
-        ensures marks_stay { self.new.is_out.items ≡ self.old.is_out.items }
+        ensures marks_stay { self.new.is_out ≡ self.old.is_out }
     {
         match output {
             Output::Send(message) => self.post(alloc, channel, message),
@@ -338,7 +415,7 @@ impl<K: ChannelKeys + Drop, O: Onion + Drop> Manager<K, O> {
         channel: usize,
         outputs: Vec<Output>,
     ) -> Result<(), Refusal>
-        ensures marks_stay { self.new.is_out.items ≡ self.old.is_out.items }
+        ensures marks_stay { self.new.is_out ≡ self.old.is_out }
     {
         for output in outputs {
             self.hand_on_one(alloc, channel, output)?;
@@ -346,19 +423,15 @@ impl<K: ChannelKeys + Drop, O: Onion + Drop> Manager<K, O> {
         Ok(())
     }
 
-    // What a link has handed out is handed on, after its record. Errors: 60, 46.
+    // What a link has handed out is handed on. Errors: 60, 46.
     fn hand_on(
         &mut self,
         alloc: Global,
         channel: usize,
         outputs: Vec<Output>,
     ) -> Result<(), Refusal>
-        ensures marks_stay { self.new.is_out.items ≡ self.old.is_out.items }
+        ensures marks_stay { self.new.is_out ≡ self.old.is_out }
     {
-        if let Err(refusal) = self.note_record(channel) {
-            drop(outputs);
-            return Err(refusal);
-        }
         self.hand_on_all(alloc, channel, outputs)?;
         self.follow(channel)?;
         self.due.list(channel);
@@ -368,7 +441,7 @@ impl<K: ChannelKeys + Drop, O: Onion + Drop> Manager<K, O> {
 
     // After a call that a link has done: what it hands out is handed on, or else it halts.
     fn after(&mut self, alloc: Global, channel: usize, outputs: Vec<Output>) -> Result<(), Refusal>
-        ensures marks_stay { self.new.is_out.items ≡ self.old.is_out.items }
+        ensures marks_stay { self.new.is_out ≡ self.old.is_out }
     {
         match self.hand_on(alloc, channel, outputs) {
             Ok(()) => Ok(()),
@@ -395,7 +468,7 @@ impl<K: ChannelKeys + Drop, O: Onion + Drop> Manager<K, O> {
         named: Option<ChannelId>,
         refusal: Refusal,
     ) -> Result<(), Refusal>
-        ensures marks_stay { self.new.is_out.items ≡ self.old.is_out.items }
+        ensures marks_stay { self.new.is_out ≡ self.old.is_out }
     {
         let Some(id) = named else {
             return Ok(());
@@ -407,7 +480,7 @@ impl<K: ChannelKeys + Drop, O: Onion + Drop> Manager<K, O> {
             None => Ok(()),
             Some(message) => {
                 let blank = None;
-                self.lines.push(channel, Posted { message, blank })
+                self.push(channel, Posted { message, blank })
             }
         }
     }
@@ -419,9 +492,8 @@ impl<K: ChannelKeys + Drop, O: Onion + Drop> Manager<K, O> {
         named: Option<ChannelId>,
         refusal: Refusal,
     ) -> Result<(), Refusal>
-        ensures marks_stay { self.new.is_out.items ≡ self.old.is_out.items }
+        ensures marks_stay { self.new.is_out ≡ self.old.is_out }
     {
-        self.note_record(channel)?;
         self.reply(alloc, channel, named, refusal)?;
         self.follow(channel)?;
         self.due.list(channel);
@@ -436,7 +508,7 @@ impl<K: ChannelKeys + Drop, O: Onion + Drop> Manager<K, O> {
         named: Option<ChannelId>,
         refusal: Refusal,
     ) -> Refusal
-        ensures marks_stay { self.new.is_out.items ≡ self.old.is_out.items }
+        ensures marks_stay { self.new.is_out ≡ self.old.is_out }
     {
         if self.channels.has_halted(channel) {
             self.halt(channel);
@@ -455,7 +527,7 @@ impl<K: ChannelKeys + Drop, O: Onion + Drop> Manager<K, O> {
 
     // What became of a command of the book: true where a further one may be taken.
     fn conclude(&mut self, alloc: Global, channel: usize, given: Given) -> bool
-        ensures marks_stay { self.new.is_out.items ≡ self.old.is_out.items }
+        ensures marks_stay { self.new.is_out ≡ self.old.is_out }
     {
         match given {
             Given::Nothing => false,
@@ -474,15 +546,22 @@ impl<K: ChannelKeys + Drop, O: Onion + Drop> Manager<K, O> {
 
     /// What the book commands is done, until nothing is due; what lacks memory is left, and due in the next call.
     pub fn go_on(&mut self, alloc: Global)
-        ensures marks_stay { self.new.is_out.items ≡ self.old.is_out.items }
+        ensures marks_stay { self.new.is_out ≡ self.old.is_out }
     {
         for _ in 0..u64::MAX {
             let Some(channel) = self.due.first() else {
                 return;
             };
-            match self.channels.obey_book(alloc, &self.onion, channel) {
+            let given = self.channels.obey_book(alloc, &self.onion, channel);
+            let batched = batch(
+                &mut self.channels,
+                &mut self.lines,
+                &mut self.is_spent,
+                channel,
+            );
+            match given {
                 Ok(given) => {
-                    if !self.conclude(alloc, channel, given) {
+                    if !self.conclude(alloc, channel, given_if(batched, given)) {
                         self.due.leave();
                     }
                 }
@@ -494,7 +573,7 @@ impl<K: ChannelKeys + Drop, O: Onion + Drop> Manager<K, O> {
     /// Each channel has its turn again: after a load, what its book commands may have waited for onions. What lacks
     /// memory is left, and due in the next call.
     pub fn turn_all(&mut self, alloc: Global)
-        ensures marks_stay { self.new.is_out.items ≡ self.old.is_out.items }
+        ensures marks_stay { self.new.is_out ≡ self.old.is_out }
     {
         for channel in 0..self.channels.len() {
             self.due.list(channel);
@@ -512,7 +591,7 @@ impl<K: ChannelKeys + Drop, O: Onion + Drop> Manager<K, O> {
         named: Option<ChannelId>,
         answer: Result<Vec<Output>, Refusal>,
     ) -> Result<(), Refusal>
-        ensures marks_stay { self.new.is_out.items ≡ self.old.is_out.items }
+        ensures marks_stay { self.new.is_out ≡ self.old.is_out }
     {
         let done = match answer {
             Ok(outputs) => self.after(alloc, channel, outputs),
@@ -525,7 +604,7 @@ impl<K: ChannelKeys + Drop, O: Onion + Drop> Manager<K, O> {
     /// There is a connection to the peer of a channel: `Link::connect`. Errors: 40 where there is no such channel;
     /// those of that call.
     pub fn connect(&mut self, alloc: Global, channel: usize) -> Result<(), Refusal>
-        ensures marks_stay { self.new.is_out.items ≡ self.old.is_out.items }
+        ensures marks_stay { self.new.is_out ≡ self.old.is_out }
     {
         let answer = self.channels.connect(alloc, channel);
         self.finish(alloc, channel, None, answer)
@@ -534,7 +613,7 @@ impl<K: ChannelKeys + Drop, O: Onion + Drop> Manager<K, O> {
     /// The connection of a channel is lost, and with it the messages that wait. Nothing happens where there is none.
     /// Error: 60, by which the link halts.
     pub fn disconnect(&mut self, alloc: Global, channel: usize) -> Result<(), Refusal>
-        ensures marks_stay { self.new.is_out.items ≡ self.old.is_out.items }
+        ensures marks_stay { self.new.is_out ≡ self.old.is_out }
     {
         self.lines.lose(channel);
         match self.channels.disconnect(alloc, channel) {
@@ -544,7 +623,8 @@ impl<K: ChannelKeys + Drop, O: Onion + Drop> Manager<K, O> {
     }
 
     /// The link of a channel takes a message of its peer's with these keys, which answer for it: `Link::handle`, over a
-    /// store that knows the channels that others have or await. A refusal is told to the peer.
+    /// store that knows the channels that others have or await. A refusal is told to the peer. Whether the link has
+    /// taken it, with its record in the open batch, also where it has halted then; and what is answered.
     ///
     /// Errors: 40 where there is no such channel; those of that call.
     pub fn message(
@@ -553,12 +633,20 @@ impl<K: ChannelKeys + Drop, O: Onion + Drop> Manager<K, O> {
         channel: usize,
         keys: K,
         message: Message,
-    ) -> Result<(), Refusal>
-        ensures marks_stay { self.new.is_out.items ≡ self.old.is_out.items }
+    ) -> (bool, Result<(), Refusal>)
+        ensures marks_stay { self.new.is_out ≡ self.old.is_out }
     {
         let named = channel_of(&message);
         let answer = self.channels.message(alloc, channel, keys, message);
-        self.finish(alloc, channel, named, answer)
+        let batched = batch(
+            &mut self.channels,
+            &mut self.lines,
+            &mut self.is_spent,
+            channel,
+        );
+        let answer = if_batched(batched, answer);
+        let is_taken = answer.is_ok();
+        (is_taken, self.finish(alloc, channel, named, answer))
     }
 
     /// The link of a channel does what its user says: the id of the HTLC that it offers, or 0.
@@ -571,11 +659,17 @@ impl<K: ChannelKeys + Drop, O: Onion + Drop> Manager<K, O> {
         channel: usize,
         command: Command,
     ) -> Result<u64, Refusal>
-        ensures marks_stay { self.new.is_out.items ≡ self.old.is_out.items }
+        ensures marks_stay { self.new.is_out ≡ self.old.is_out }
     {
         let subject = self.channels.subject(channel, &command);
         let answer = self.channels.command(alloc, channel, command);
-        match self.finish(alloc, channel, None, answer) {
+        let batched = batch(
+            &mut self.channels,
+            &mut self.lines,
+            &mut self.is_spent,
+            channel,
+        );
+        match self.finish(alloc, channel, None, if_batched(batched, answer)) {
             Ok(()) => Ok(subject),
             Err(refusal) => Err(refusal),
         }
@@ -583,14 +677,14 @@ impl<K: ChannelKeys + Drop, O: Onion + Drop> Manager<K, O> {
 
     /// Each channel signs that owes a signature. What a channel refuses is left; one that lacks memory halts.
     pub fn sign(&mut self, alloc: Global)
-        ensures marks_stay { self.new.is_out.items ≡ self.old.is_out.items }
+        ensures marks_stay { self.new.is_out ≡ self.old.is_out }
     {
         for _ in 0..u64::MAX {
             let Some(channel) = self.unsigned.first() else {
                 return;
             };
-            drop(self.command(alloc, channel, Command::Sign));
             self.unsigned.leave();
+            drop(self.command(alloc, channel, Command::Sign));
         }
     }
 
@@ -598,7 +692,7 @@ impl<K: ChannelKeys + Drop, O: Onion + Drop> Manager<K, O> {
 
     // Whether the first undecided event of a channel is with the host.
     fn is_out(&self, channel: usize) -> bool
-        ensures { result ≡ is_with_host channel self.now.is_out.items }
+        ensures { result ≡ is_with_host channel self.now.is_out }
     {
         match self.is_out.get(channel) {
             None => false,
@@ -607,7 +701,7 @@ impl<K: ChannelKeys + Drop, O: Onion + Drop> Manager<K, O> {
     }
 
     fn set_out(&mut self, channel: usize, out: bool)
-        ensures marks { self.new.is_out.items ≡ marked_at channel out self.old.is_out.items }
+        ensures marks { self.new.is_out ≡ marked_at channel out self.old.is_out }
         ensures channels_stay { self.new.channels ≡ self.old.channels }
         ensures lines_stay { self.new.lines ≡ self.old.lines }
     {
@@ -630,7 +724,7 @@ impl<K: ChannelKeys + Drop, O: Onion + Drop> Manager<K, O> {
     // yet.
     fn is_untold(&self, channel: usize) -> bool
         ensures { result ≡ is_for_host (slice_get self.now.channels.parts.links channel)
-            (is_with_host channel self.now.is_out.items) (saved_events channel self.now.lines) }
+            (is_with_host channel self.now.is_out) (saved_events channel self.now.lines) }
     {
         !self.channels.has_halted(channel)
             && !self.is_out(channel)
@@ -640,7 +734,7 @@ impl<K: ChannelKeys + Drop, O: Onion + Drop> Manager<K, O> {
     // The first undecided event of a channel, where it is for the host. Error: 60 alone.
     fn event_for_host(&self, alloc: Global, channel: usize) -> Result<Option<ChannelEvent>, Refusal>
         ensures event { IfOk result (λ e. e ≡ event_for_host (slice_get self.now.channels.parts.links channel)
-            (is_with_host channel self.now.is_out.items) (saved_events channel self.now.lines)) }
+            (is_with_host channel self.now.is_out) (saved_events channel self.now.lines)) }
         ensures fails_for_memory_alone { IfErr result (λ r. r ≡ Refusal.Memory) }
     {
         if self.is_untold(channel) {
@@ -659,13 +753,13 @@ impl<K: ChannelKeys + Drop, O: Onion + Drop> Manager<K, O> {
     ) -> Result<Option<(usize, u64, ChannelEvent)>, Refusal>
         ensures gives_what_is_for_the_host { IfOk result (λ o. IfSome o (λ r. Some r.2
             ≡ event_for_host (slice_get self.old.channels.parts.links r.0)
-            (is_with_host r.0 self.old.is_out.items) (saved_events r.0 self.old.lines))) }
+            (is_with_host r.0 self.old.is_out) (saved_events r.0 self.old.lines))) }
         ensures by_its_number { IfOk result (λ o. IfSome o (λ r. r.1
             ≡ decided_in (end_in (slice_get self.old.channels.parts.links r.0)))) }
-        ensures marks_it { IfOk result (λ o. IfSome o (λ r. self.new.is_out.items
-            ≡ marked_at r.0 true self.old.is_out.items)) }
-        ensures or_nothing { IfOk result (λ o. IfNone o (self.new.is_out.items ≡ self.old.is_out.items)) }
-        ensures changes_nothing_if_refused { OnErr result (self.new.is_out.items ≡ self.old.is_out.items) }
+        ensures marks_it { IfOk result (λ o. IfSome o (λ r. self.new.is_out
+            ≡ marked_at r.0 true self.old.is_out)) }
+        ensures or_nothing { IfOk result (λ o. IfNone o (self.new.is_out ≡ self.old.is_out)) }
+        ensures changes_nothing_if_refused { OnErr result (self.new.is_out ≡ self.old.is_out) }
         ensures fails_for_memory_alone { IfErr result (λ r. r ≡ Refusal.Memory) }
         ensures channels_stay { self.new.channels ≡ self.old.channels }
         ensures lines_stay { self.new.lines ≡ self.old.lines }
@@ -693,7 +787,7 @@ impl<K: ChannelKeys + Drop, O: Onion + Drop> Manager<K, O> {
         target: Option<ChannelId>,
         given: Given,
     ) -> Result<(), Refusal>
-        ensures marks_stay { self.new.is_out.items ≡ self.old.is_out.items }
+        ensures marks_stay { self.new.is_out ≡ self.old.is_out }
     {
         let done = self.conclude(alloc, channel, given);
         self.list_due(target);
@@ -705,7 +799,7 @@ impl<K: ChannelKeys + Drop, O: Onion + Drop> Manager<K, O> {
     // Whether the event of this number of a channel is with the host. Errors: 62, 40.
     fn may_decide(&self, channel: usize, event: u64) -> Result<(), Refusal>
         ensures { result ≡ may_decide (slice_get self.now.channels.parts.links channel)
-            (is_with_host channel self.now.is_out.items) event }
+            (is_with_host channel self.now.is_out) event }
     {
         if self.channels.has_halted(channel) {
             return Err(Refusal::Halted);
@@ -730,19 +824,26 @@ impl<K: ChannelKeys + Drop, O: Onion + Drop> Manager<K, O> {
         verdict: Verdict,
     ) -> Result<(), Refusal>
         ensures only_what_is_with_the_host { OnOk result (may_decide (slice_get self.old.channels.parts.links channel)
-            (is_with_host channel self.old.is_out.items) event ≡ Ok tt) }
+            (is_with_host channel self.old.is_out) event ≡ Ok tt) }
         ensures refuses_others { IfErr (may_decide (slice_get self.old.channels.parts.links channel)
-            (is_with_host channel self.old.is_out.items) event) (λ r. (result ≡ Err r)
-            × (self.new.channels ≡ self.old.channels) × (self.new.is_out.items ≡ self.old.is_out.items)) }
-        ensures is_over { OnOk result (self.new.is_out.items ≡ marked_at channel false self.old.is_out.items) }
+            (is_with_host channel self.old.is_out) event) (λ r. (result ≡ Err r)
+            × (self.new.channels ≡ self.old.channels) × (self.new.is_out ≡ self.old.is_out)) }
+        ensures is_over { OnOk result (self.new.is_out ≡ marked_at channel false self.old.is_out) }
     {
         self.may_decide(channel, event)?;
-        let (mark, given) = self.channels.decide(alloc, &self.onion, channel, verdict)?;
+        let decided = self.channels.decide(alloc, &self.onion, channel, verdict);
+        let batched = batch(
+            &mut self.channels,
+            &mut self.lines,
+            &mut self.is_spent,
+            channel,
+        );
+        let (mark, given) = decided?;
         let target = target_of(&mark);
         drop(mark);
         self.set_out(channel, false);
         self.untold.list(channel);
-        self.decided_by(alloc, channel, target, given)
+        self.decided_by(alloc, channel, target, given_if(batched, given))
     }
 
     /// What the host says of an HTLC that is held by the number of this event.
@@ -755,24 +856,31 @@ impl<K: ChannelKeys + Drop, O: Onion + Drop> Manager<K, O> {
         event: u64,
         verdict: Verdict,
     ) -> Result<(), Refusal>
-        ensures marks_stay { self.new.is_out.items ≡ self.old.is_out.items }
+        ensures marks_stay { self.new.is_out ≡ self.old.is_out }
     {
         if self.channels.has_halted(channel) {
             return Err(Refusal::Halted);
         }
-        let (mark, given) = self
+        let decided = self
             .channels
-            .resume(alloc, &self.onion, channel, event, verdict)?;
+            .resume(alloc, &self.onion, channel, event, verdict);
+        let batched = batch(
+            &mut self.channels,
+            &mut self.lines,
+            &mut self.is_spent,
+            channel,
+        );
+        let (mark, given) = decided?;
         let target = target_of(&mark);
         drop(mark);
-        self.decided_by(alloc, channel, target, given)
+        self.decided_by(alloc, channel, target, given_if(batched, given))
     }
 
     // ---- settings
 
     /// The block height from now on. Error: 40 above 400,000,000.
     pub fn set_height(&mut self, height: u32) -> Result<(), Refusal>
-        ensures marks_stay { self.new.is_out.items ≡ self.old.is_out.items }
+        ensures marks_stay { self.new.is_out ≡ self.old.is_out }
     {
         self.channels.set_height(height)
     }
@@ -784,7 +892,7 @@ impl<K: ChannelKeys + Drop, O: Onion + Drop> Manager<K, O> {
         secret: [u8; 32],
         amount: u64,
     ) -> Result<(), Refusal>
-        ensures marks_stay { self.new.is_out.items ≡ self.old.is_out.items }
+        ensures marks_stay { self.new.is_out ≡ self.old.is_out }
     {
         self.channels.expect(preimage, secret, amount)
     }
@@ -828,12 +936,15 @@ impl<K: ChannelKeys + Drop, O: Onion + Drop> Manager<K, O> {
     }
 
     /// The open batch is closed: its host saves it in one transaction, and says so by `saved`. None where nothing has
-    /// changed, or the batch before isn't saved. Errors: 60, 46; nothing has changed then.
+    /// changed, or the batch before isn't saved. Errors: 60; 46, also where the batch would leave out a record that has
+    /// changed; nothing has changed then.
     pub fn close_batch(&mut self, alloc: Global) -> Result<Option<Batch>, Refusal>
         ensures has_the_newest_records { IfOk result (λ o. IfSome o (λ b. b.records.items
             ≡ records_of self.old.channels.parts self.old.lines.open_channels)) }
+        ensures leaves_none_out { IfOk result (λ o. IfSome o
+            (λ b. none_fresh self.old.channels.parts.records ≡ true)) }
         ensures channels_stay { self.new.channels ≡ self.old.channels }
-        ensures marks_stay { self.new.is_out.items ≡ self.old.is_out.items }
+        ensures marks_stay { self.new.is_out ≡ self.old.is_out }
         ensures closes { IfOk result (λ o. IfSome o (λ b. (self.new.lines ≡ closed self.old.lines)
             × (b.number ≡ self.new.lines.batches))) }
         ensures or_nothing { IfOk result (λ o. IfNone o (self.new.lines ≡ self.old.lines)) }
@@ -842,6 +953,7 @@ impl<K: ChannelKeys + Drop, O: Onion + Drop> Manager<K, O> {
         if !self.lines.can_close() {
             return Ok(None);
         }
+        self.leaves_none_out()?;
         let records = self.open_records(alloc)?;
         match self.lines.close() {
             Ok(number) => Ok(Some(Batch { number, records })),
@@ -854,7 +966,7 @@ impl<K: ChannelKeys + Drop, O: Onion + Drop> Manager<K, O> {
 
     // The channels of the closed batch may have events for the host.
     fn list_untold(&mut self)
-        ensures marks_stay { self.new.is_out.items ≡ self.old.is_out.items }
+        ensures marks_stay { self.new.is_out ≡ self.old.is_out }
         ensures lines_stay { self.new.lines ≡ self.old.lines }
     {
         for channel in self.lines.closed_channels() {
@@ -865,7 +977,7 @@ impl<K: ChannelKeys + Drop, O: Onion + Drop> Manager<K, O> {
     /// The closed batch is saved: what waited for it may leave. Errors: 40 where it isn't the one of this number, 60;
     /// nothing has changed then.
     pub fn saved(&mut self, batch: u64) -> Result<(), Refusal>
-        ensures marks_stay { self.new.is_out.items ≡ self.old.is_out.items }
+        ensures marks_stay { self.new.is_out ≡ self.old.is_out }
         ensures saved { OnOk result (self.new.lines ≡ saved self.old.lines) }
         ensures only_the_closed_one { OnOk result (is_closed batch self.old.lines ≡ true) }
         ensures changes_nothing_if_refused { OnErr result (self.new.lines ≡ self.old.lines) }
@@ -877,7 +989,7 @@ impl<K: ChannelKeys + Drop, O: Onion + Drop> Manager<K, O> {
     /// The channel whose first message is handed to the host next: its batch is saved. Error: 60 alone, and nothing has
     /// changed.
     pub fn next_message(&mut self) -> Result<Option<usize>, Refusal>
-        ensures marks_stay { self.new.is_out.items ≡ self.old.is_out.items }
+        ensures marks_stay { self.new.is_out ≡ self.old.is_out }
         ensures hands_out_what_may_leave { IfOk result (λ o. IfSome o (λ c. (may_leave self.old.lines
             (first_at c self.old.lines) ≡ true) × (self.new.lines ≡ handed c self.old.lines))) }
         ensures hands_out_once { IfOk result (λ o. IfSome o (λ c. is_out c self.old.lines ≡ false)) }
@@ -894,14 +1006,14 @@ impl<K: ChannelKeys + Drop, O: Onion + Drop> Manager<K, O> {
 
     /// What is blank in the first message of a channel is filled, and the message comes again. Error: 60 alone.
     pub fn fill(&mut self, channel: usize, filling: Filling) -> Result<(), Refusal>
-        ensures marks_stay { self.new.is_out.items ≡ self.old.is_out.items }
+        ensures marks_stay { self.new.is_out ≡ self.old.is_out }
     {
         self.lines.fill(channel, filling)
     }
 
     /// The message of this number, which is with the host, has left. Errors: `Lines::send`.
     pub fn sent(&mut self, channel: usize, number: u64) -> Result<(), Refusal>
-        ensures marks_stay { self.new.is_out.items ≡ self.old.is_out.items }
+        ensures marks_stay { self.new.is_out ≡ self.old.is_out }
         ensures has_left { OnOk result (self.new.lines ≡ sent channel self.old.lines) }
         ensures only_what_may { OnOk result ((lines.is_with_host channel number self.old.lines ≡ true)
             × (may_leave self.old.lines (first_at channel self.old.lines) ≡ true)) }

@@ -11,7 +11,8 @@ use Rattle.ln_channel.specs.State.{State, refused}
 use Rattle.ln_channel.specs.Step.{Done, Answered}
 use Rattle.std.specs.Prelude.{Option}
 use Rattle.ln_link.specs.Calls.{left_by}
-use Rattle.ln_link.specs.Saving.{StoreView, AnswersOver, AnswersMessage, AnswersCommand, HaltsAnswered, HaltsUnsaved}
+use Rattle.ln_store.specs.Store.{StoreView}
+use Rattle.ln_link.specs.Saving.{AnswersOver, AnswersMessage, AnswersCommand, HaltsAnswered, HaltsUnsaved}
 use Rattle.ln_link.specs.Saving.{handled_beside, reached}
 use Rattle.ln_manager_laws.specs.Calls.{connected_by}
 use Rattle.ln_manager_laws.specs.Steps.{done_or_refused}

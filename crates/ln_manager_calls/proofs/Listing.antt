@@ -21,7 +21,7 @@ module _ {K : Type 0} (signer : K → Signer) (old : Loaded) where
   pub call_leads : (p q : Parts K) → (k : Call K) → Makes signer k p q → Leads signer (view old p) (view old q)
   call_leads p q (call.AddFunder keys spec) h = adds signer old p q keys (stage.AwaitsAccept spec) tt h
   call_leads p q (call.AddFundee keys config) h = adds signer old p q keys (stage.AwaitsOpen config) tt h
-  call_leads p q (call.NoteBatched c) h =
+  call_leads p q (call.Batch c) h =
       same_lead signer (view old p) (view old q) h.0 (λ k. ap (λ ns. kept_at old ns k) h.1
       ∙ changed_same old batched (λ n. refl) c p.records k) h.2.0 (ap table_of h.2.1)
   call_leads p q (call.NameFunding c txid output) h = names signer old p q h.1 c txid output h.0

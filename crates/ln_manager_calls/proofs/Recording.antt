@@ -33,12 +33,12 @@ use Rattle.ln_channel.specs.Step.{Done, commanded, handled, makes_view, opened}
 use Rattle.ln_store.specs.declared.record.Items.{Items}
 use Rattle.ln_store.specs.Readable.{is_readable}
 use Rattle.ln_store.specs.Record.{record_bytes, unsealed}
-use Rattle.ln_store.specs.Store.{Records, IsOneOf}
+use Rattle.ln_store.specs.Store.{Records, IsOneOf, StoreView, in_memory}
 use Rattle.ln_link.specs.Calls as link
 use Rattle.ln_link.specs.Calls.{Has}
 use Rattle.ln_link.specs.Loading.{HasRecord}
 use Rattle.ln_link.specs.Record.{items_of}
-use Rattle.ln_link.specs.Saving.{StoreView, AnswersCommand, AnswersMessage, AnswersOver, FailsBy, HandsOut, HaltsBehind}
+use Rattle.ln_link.specs.Saving.{AnswersCommand, AnswersMessage, AnswersOver, FailsBy, HandsOut, HaltsBehind}
 use Rattle.ln_link.specs.Saving.{HaltsAnswered, HaltsEarly, HaltsRefused, IsUnsaved, SavesIf, handled_beside, is_known}
 use Rattle.ln_link.specs.Saving.{reached}
 use Rattle.ln_link.specs.Saving.{fails_now, has_same_record, is_update, sends_update, sent_alone, settled, stored_end}
@@ -248,10 +248,6 @@ still_there s t id keeps own = by_end (saved_end t) refl
         absurd (kept_saved t own.0.dance.channel (keeps own.0.dance.channel (saved_kept s own.0 own.1)) none)
     by_end (Some e) is = (e, is, same_id s t own.0 e keeps own.1 is ∙ own.2)
 
--- a store with these records, whose calls don't fail
-abbrev over : Records → StoreView
-over vs = record { records = vs; failed = 0 }
-
 steady : HasRisen 0 0 → ⊥
 steady h = omega (arith, h)
 
@@ -422,118 +418,120 @@ module _ {K : Type 0} where
           ap (λ b. cond b (Err refusal.OutOfPlace) (handled keys l m)) (unknown (saved_end l.stage) refl)
           ∙ sym (ap (λ b. cond b (Err refusal.OutOfPlace) (handled keys l m)) is) ∙ said
 
-  module _ (l l' : State K) (rs rs' : Records) (works : l.halted ≡ false) where
-    stores : over rs' ≡ over rs → rs' ≡ rs
+  module _ (l l' : State K) (n n' : Newest) (works : l.halted ≡ false) where
+    stores : store_of n' ≡ store_of n → n'.kept ≡ n.kept
     stores is = ap (λ (x : StoreView). x.records) is
 
-    unsaved_same : (e : Refusal) (f : Option Refusal) (o : Option End) → IsUnsaved e f o (over rs) (over rs')
-        → rs' ≡ rs
+    unsaved_same : (e : Refusal) (f : Option Refusal) (o : Option End) → IsUnsaved e f o (store_of n) (store_of n')
+        → n'.kept ≡ n.kept
     unsaved_same e f o u = by u.cause u.one_of_both
       where
-        by : FailsBy e f o 0 0 → IsOneOf e rs (stored_end f o rs) rs' → rs' ≡ rs
+        by : FailsBy e f o 0 0 → IsOneOf e n.kept (stored_end f o n.kept) n'.kept → n'.kept ≡ n.kept
         by c (inl same) = same
         by (inl m) (inr n) = absurd (let no : refusal.Memory ≡ refusal.Store = sym m.0 ∙ n.0 in cc)
         by (inr (inl m)) (inr n) = absurd (let no : refusal.Damaged ≡ refusal.Store = sym m.0 ∙ n.0 in cc)
         by (inr (inr m)) (inr n) = absurd (steady m.2)
 
     -- saved where it has to be, or its record is what it was
-    saved_left : l'.halted ≡ false → (b : Bool) → SavesIf b l'.failure (saved_end l'.stage) (over rs) (over rs')
-        → (b ≡ false → Stays l l') → Left l l' rs rs'
+    saved_left : l'.halted ≡ false → (b : Bool) → SavesIf b l'.failure (saved_end l'.stage) (store_of n) (store_of n')
+        → (b ≡ false → Stays l l') → Left l l' n.kept n'.kept
     saved_left up false saves stays = Same up (stores saves) (stays refl)
     saved_left up true saves stays = by_end (saved_end l'.stage) refl saves
       where
-        by_end : (o : Option End) → saved_end l'.stage ≡ o → SavesIf true l'.failure o (over rs) (over rs')
-            → Left l l' rs rs'
+        by_end : (o : Option End) → saved_end l'.stage ≡ o → SavesIf true l'.failure o (store_of n) (store_of n')
+            → Left l l' n.kept n'.kept
         by_end None is saves =
             Same up (stores saves.1) (λ vs none has. subst (λ o. Has l'.failure o vs) (sym is) tt)
         by_end (Some e) is saves = Put up e is saves.0 (ap (λ (x : StoreView). x.records) saves.1)
 
     -- it becomes this link
-    becomes : (k : State K) → l' ≡ k → Left l k rs rs' → Left l l' rs rs'
-    becomes k is left = subst (λ z. Left l z rs rs') (sym is) left
+    becomes : (k : State K) → l' ≡ k → Left l k n.kept n'.kept → Left l l' n.kept n'.kept
+    becomes k is left = subst (λ z. Left l z n.kept n'.kept) (sym is) left
 
-    answered_left : (x : Option Side) (e : Refusal) (k : State K) → HaltsAnswered x e k l' (over rs) (over rs')
-        → Left l l' rs rs'
+    answered_left : (x : Option Side) (e : Refusal) (k : State K) → HaltsAnswered x e k l' (store_of n) (store_of n')
+        → Left l l' n.kept n'.kept
     answered_left x e k (inl h) = Halts (ap (λ (z : State K). z.halted) h.1) (stores h.2)
     answered_left x e k (inr h) = Halts (ap (λ (z : State K). z.halted) h.1.0) (unsaved_same e _ _ h.1.1)
 
     module _ {V : Type 0} (outs : V → List Output) where
       behind_left : (brings : List Output → Option Side) (e : Refusal) (said : Result Done Refusal)
-          → HaltsBehind brings e said l l' (over rs) (over rs') → Left l l' rs rs'
+          → HaltsBehind brings e said l l' (store_of n) (store_of n') → Left l l' n.kept n'.kept
       behind_left brings e (Ok d) h = answered_left (brings d.outputs) e (reached d l) h
       behind_left brings e (Err r) h = absurd h
 
-      refusing_left : (e : Refusal) (said : Result Done Refusal) → HaltsRefused e said l l' (over rs) (over rs')
-          → Left l l' rs rs'
+      refusing_left : (e : Refusal) (said : Result Done Refusal) → HaltsRefused e said l l' (store_of n) (store_of n')
+          → Left l l' n.kept n'.kept
       refusing_left e (Ok d) h = absurd h
       refusing_left e (Err r) h = Halts (ap (λ (z : State K). z.halted) h.1.0) (unsaved_same e _ _ h.1.1)
 
       early_left : (e : Refusal) (views : Bool) (said : Result Done Refusal)
-          → HaltsEarly views e said l l' (over rs) (over rs') → Left l l' rs rs'
+          → HaltsEarly views e said l l' (store_of n) (store_of n') → Left l l' n.kept n'.kept
       early_left e views said h = Halts (has_halted l l' h.1) (stores h.2)
 
   -- ---- a command
 
-  module _ {V : Type 0} (outs : V → List Output) (l : State K) (rs : Records) (works : l.halted ≡ false) where
+  module _ {V : Type 0} (outs : V → List Output) (l : State K) (n : Newest) (works : l.halted ≡ false) where
     handed_left : (brings : List Output → Option Side) (said : Result Done Refusal) (v : V) (l' : State K)
-        (rs' : Records) → HandsOut brings outs said l v l' (over rs) (over rs')
+        (n' : Newest) → HandsOut brings outs said l v l' (store_of n) (store_of n')
         → ((d : Done) → said ≡ Ok d → has_same_record (brings d.outputs) d.stage ≡ true → Stays l (settled d l))
-        → Left l l' rs rs'
-    handed_left brings (Ok d) v l' rs' h stays =
-        becomes l l' rs rs' works (settled d l) h.1
+        → Left l l' n.kept n'.kept
+    handed_left brings (Ok d) v l' n' h stays =
+        becomes l l' n n' works (settled d l) h.1
         (by_same (has_same_record (brings d.outputs) d.stage) refl h.2)
       where
         by_same : (b : Bool) → has_same_record (brings d.outputs) d.stage ≡ b
-            → SavesIf (not b) l.failure (saved_end (settled d l).stage) (over rs) (over rs')
-            → Left l (settled d l) rs rs'
-        by_same true is saves = saved_left l (settled d l) rs rs' works works false saves (λ no. stays d refl is)
-        by_same false is saves = saved_left l (settled d l) rs rs' works works true saves (λ no. absurd (cc))
-    handed_left brings (Err r) v l' rs' h stays = absurd h
+            → SavesIf (not b) l.failure (saved_end (settled d l).stage) (store_of n) (store_of n')
+            → Left l (settled d l) n.kept n'.kept
+        by_same true is saves = saved_left l (settled d l) n n' works works false saves (λ no. stays d refl is)
+        by_same false is saves = saved_left l (settled d l) n n' works works true saves (λ no. absurd (cc))
+    handed_left brings (Err r) v l' n' h stays = absurd h
 
-    same_link : (l' : State K) (rs' : Records) → l' ≡ l → over rs' ≡ over rs → Left l l' rs rs'
-    same_link l' rs' is same = becomes l l' rs rs' works l is
-        (Same works (stores l l rs rs' works same) (λ vs none has. has))
+    same_link : (l' : State K) (n' : Newest) → l' ≡ l → store_of n' ≡ store_of n → Left l l' n.kept n'.kept
+    same_link l' n' is same = becomes l l' n n' works l is
+        (Same works (stores l l n n' works same) (λ vs none has. has))
 
-    command_left : (keys : Signer) (c : commands.Command) (answer : Result V Refusal) (l' : State K) (rs' : Records)
-        → AnswersCommand outs (commanded keys l c) l c answer l' (over rs) (over rs') → Left l l' rs rs'
-    command_left keys c (Ok v) l' rs' h =
-        handed_left (λ os. sent_alone (sends_update c)) (commanded keys l c) v l' rs' h
-        (λ d said same vs none has. command_recorded keys l c (over vs) d said same has)
-    command_left keys c (Err e) l' rs' (inl h) = early_left l l' rs rs' works outs e false (commanded keys l c) h
-    command_left keys c (Err e) l' rs' (inr (inl h)) =
-        behind_left l l' rs rs' works outs (λ os. sent_alone (sends_update c)) e (commanded keys l c) h
-    command_left keys c (Err e) l' rs' (inr (inr h)) = same_link l' rs' h.1 h.2
+    command_left : (keys : Signer) (c : commands.Command) (answer : Result V Refusal) (l' : State K) (n' : Newest)
+        → AnswersCommand outs (commanded keys l c) l c answer l' (store_of n) (store_of n') → Left l l' n.kept n'.kept
+    command_left keys c (Ok v) l' n' h =
+        handed_left (λ os. sent_alone (sends_update c)) (commanded keys l c) v l' n' h
+        (λ d said same vs none has. command_recorded keys l c (in_memory vs) d said same has)
+    command_left keys c (Err e) l' n' (inl h) = early_left l l' n n' works outs e false (commanded keys l c) h
+    command_left keys c (Err e) l' n' (inr (inl h)) =
+        behind_left l l' n n' works outs (λ os. sent_alone (sends_update c)) e (commanded keys l c) h
+    command_left keys c (Err e) l' n' (inr (inr h)) = same_link l' n' h.1 h.2
 
     -- ---- a message
 
-    refused_left : (e : Refusal) (l' : State K) (rs' : Records) → l' ≡ refused e l
+    refused_left : (e : Refusal) (l' : State K) (n' : Newest) → l' ≡ refused e l
         → (b : Bool) → fails_now e l ≡ b
-        → SavesIf b (refused e l).failure (saved_end (refused e l).stage) (over rs) (over rs') → Left l l' rs rs'
-    refused_left e l' rs' is b now saves =
-        becomes l l' rs rs' works (refused e l) is
-        (saved_left l (refused e l) rs rs' works (refused_works e l ∙ works) b saves
-        (λ no vs none has. refused_by e l (over vs) (over vs) false (now ∙ no) refl has))
+        → SavesIf b (refused e l).failure (saved_end (refused e l).stage) (store_of n) (store_of n')
+        → Left l l' n.kept n'.kept
+    refused_left e l' n' is b now saves =
+        becomes l l' n n' works (refused e l) is
+        (saved_left l (refused e l) n n' works (refused_works e l ∙ works) b saves
+        (λ no vs none has. refused_by e l (in_memory vs) (in_memory vs) false (now ∙ no) refl has))
 
-    message_left : (keys : Signer) (m : Message) (answer : Result V Refusal) (l' : State K) (rs' : Records)
-        → AnswersMessage outs (handled_beside rs keys l m) l m answer l' (over rs) (over rs') → Left l l' rs rs'
-    message_left keys m (Ok v) l' rs' h =
-        handed_left (taken_alone (is_update m)) (handled_beside rs keys l m) v l' rs' h
-        (λ d said same vs none has. message_recorded keys l m (over vs) d (same_said keys l m rs vs d said none) same
-        has)
-    message_left keys m (Err e) l' rs' (inl h) =
-        early_left l l' rs rs' works outs e (makes_view l m) (handled_beside rs keys l m) h
-    message_left keys m (Err e) l' rs' (inr (inl h)) =
-        behind_left l l' rs rs' works outs (taken_alone (is_update m)) e (handled_beside rs keys l m) h
-    message_left keys m (Err e) l' rs' (inr (inr (inl h))) =
-        refusing_left l l' rs rs' works outs e (handled_beside rs keys l m) h
-    message_left keys m (Err e) l' rs' (inr (inr (inr h))) =
-        refused_left e l' rs' h.1 (fails_now e l) refl h.2
+    message_left : (keys : Signer) (m : Message) (answer : Result V Refusal) (l' : State K) (n' : Newest)
+        → AnswersMessage outs (handled_beside n.kept keys l m) l m answer l' (store_of n) (store_of n')
+        → Left l l' n.kept n'.kept
+    message_left keys m (Ok v) l' n' h =
+        handed_left (taken_alone (is_update m)) (handled_beside n.kept keys l m) v l' n' h
+        (λ d said same vs none has.
+        message_recorded keys l m (in_memory vs) d (same_said keys l m n.kept vs d said none) same has)
+    message_left keys m (Err e) l' n' (inl h) =
+        early_left l l' n n' works outs e (makes_view l m) (handled_beside n.kept keys l m) h
+    message_left keys m (Err e) l' n' (inr (inl h)) =
+        behind_left l l' n n' works outs (taken_alone (is_update m)) e (handled_beside n.kept keys l m) h
+    message_left keys m (Err e) l' n' (inr (inr (inl h))) =
+        refusing_left l l' n n' works outs e (handled_beside n.kept keys l m) h
+    message_left keys m (Err e) l' n' (inr (inr (inr h))) =
+        refused_left e l' n' h.1 (fails_now e l) refl h.2
 
-    over_left : (keys : Signer) (m : Message) (answer : Result V Refusal) (l' : State K) (rs' : Records)
-        → AnswersOver outs keys l m answer l' (over rs) (over rs') → Left l l' rs rs'
-    over_left keys m (Ok v) l' rs' h = message_left keys m (Ok v) l' rs' h
-    over_left keys m (Err e) l' rs' (inl h) = Halts (ap (λ (z : State K). z.halted) h.halts) h.records
-    over_left keys m (Err e) l' rs' (inr h) = message_left keys m (Err e) l' rs' h
+    over_left : (keys : Signer) (m : Message) (answer : Result V Refusal) (l' : State K) (n' : Newest)
+        → AnswersOver outs keys l m answer l' (store_of n) (store_of n') → Left l l' n.kept n'.kept
+    over_left keys m (Ok v) l' n' h = message_left keys m (Ok v) l' n' h
+    over_left keys m (Err e) l' n' (inl h) = Halts (ap (λ (z : State K). z.halted) h.halts) h.records
+    over_left keys m (Err e) l' n' (inr h) = message_left keys m (Err e) l' n' h
 
   -- ---- of any link
 
@@ -565,7 +563,7 @@ module _ {K : Type 0} where
 
         by_halted : (b : Bool) → l.halted ≡ b → Left l l' n.kept n'.kept
         by_halted true halted = still_left (link.Command c) (as_leads answer h) halted
-        by_halted false works = command_left outs l n.kept works keys c answer l' n'.kept h
+        by_halted false works = command_left outs l n works keys c answer l' n' h
 
     pub message_leaves : (m : Message) → AnswersOver outs keys l m answer l' (store_of n) (store_of n')
         → Left l l' n.kept n'.kept
@@ -579,7 +577,7 @@ module _ {K : Type 0} where
 
         by_halted : (b : Bool) → l.halted ≡ b → Left l l' n.kept n'.kept
         by_halted true halted = still_left (link.Handle m) (as_leads answer h) halted
-        by_halted false works = over_left outs l n.kept works keys m answer l' n'.kept h
+        by_halted false works = over_left outs l n works keys m answer l' n' h
 
   -- ---- what they tell of its seat then
 

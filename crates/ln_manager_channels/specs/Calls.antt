@@ -58,7 +58,7 @@ obeyed p = record { links = p.links; records = p.records; book = p.book }
 pub data Call (K : Type 0) : Type 0 where
   AddFunder : (keys : K) (spec : OpenSpec) → Call K
   AddFundee : (keys : K) (config : Config) → Call K
-  NoteBatched : (channel : ℕ) → Call K
+  Batch : (channel : ℕ) → Call K
   NameFunding : (channel : ℕ) (txid : List ℕ) (output : ℕ) → Call K
   Connect : (channel : ℕ) → Call K
   Disconnect : (channel : ℕ) → Call K
@@ -115,7 +115,7 @@ Hears told p q = ((q.book ≡ told) ⊎ (q.book ≡ p.book)) × BookAlone p q
 abbrev pub Makes : {K : Type 0} → (K → Signer) → Call K → Parts K → Parts K → Type 0
 Makes signer (AddFunder keys spec) p q = Adds (begun keys (stage.AwaitsAccept spec)) p q
 Makes signer (AddFundee keys config) p q = Adds (begun keys (stage.AwaitsOpen config)) p q
-Makes signer (NoteBatched c) p q =
+Makes signer (Batch c) p q =
     (q.links ≡ p.links) × (q.records ≡ changed_at c batched p.records) × LinksAndRecords p q
 Makes signer (NameFunding c txid output) p q =
     (q.links ≡ changed_at c (with_funding txid output) p.links) × LinksAlone p q

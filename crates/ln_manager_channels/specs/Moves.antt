@@ -1,6 +1,6 @@
 -- What one call makes of the link of a channel, and of the records that its store has.
-use Rattle.std.specs.Prelude.{◌≡◌, ◌⊎◌, ℕ, List, Bool, not, ◌==◌, Option, Some, None, Result, Err, slice_get, slice_set}
-use Rattle.std.specs.Prelude.{[], ◌∷◌, ◌++◌, length, nat_le, true, false, if◌then◌else◌}
+use Rattle.std.specs.Prelude.{◌≡◌, ◌⊎◌, ℕ, List, Bool, not, ◌&&◌, ◌==◌, Option, Some, None, Result, Err}
+use Rattle.std.specs.Prelude.{slice_get, slice_set, [], ◌∷◌, ◌++◌, length, nat_le, true, false, if◌then◌else◌}
 use Rattle.std.specs.FinMap as map
 use Rattle.std.specs.Global.{Vec}
 use Rattle.ln_msgs.specs.declared.messages.message.Message.{Message}
@@ -12,7 +12,8 @@ use Rattle.ln_channel.specs.declared.output.Output.{Output}
 use Rattle.ln_channel.specs.Asking.{with_named, naming_answer}
 use Rattle.ln_channel.specs.State.{State, KeepsChannel, halts}
 use Rattle.ln_channel.specs.Step.{Answered, connected, commanded, opened}
-use Rattle.ln_link.specs.Saving.{StoreView, AnswersOver, AnswersCommand}
+use Rattle.ln_store.specs.Store.{StoreView}
+use Rattle.ln_link.specs.Saving.{AnswersOver, AnswersCommand}
 use Rattle.ln_manager_channels.specs.declared.newest.Newest.{Newest}
 use Rattle.ln_manager_channels.specs.Places.{changed_at, AnswersBeside}
 use Rattle.ln_manager_channels.specs.Numbers.{NumbersById, numbered}
@@ -39,9 +40,9 @@ Connects signer l new answer =
 
 -- ---- over its store
 
--- the store of a channel: its newest record, and the ids of others that it knows
+-- the store of a channel: its newest record, and the ids of others that it knows; a batch that takes it tells it
 abbrev pub store_of : Newest → StoreView
-store_of n = record { records = n.kept; failed = 0 }
+store_of n = record { records = n.kept; failed = 0; is_fresh = n.is_fresh }
 
 -- with no record
 abbrev pub no_record : Newest
@@ -54,6 +55,19 @@ with_place c ns = if nat_le (length ns) c then ns ++ no_record ∷ [] else ns
 -- it belongs to a batch
 abbrev pub batched : Newest → Newest
 batched n = record n { is_fresh = false }
+
+-- it has changed, and belongs to none
+abbrev pub is_fresh_in : Option Newest → Bool
+is_fresh_in None = false
+is_fresh_in (Some n) = n.is_fresh
+
+abbrev pub is_fresh_at : ℕ → List Newest → Bool
+is_fresh_at c ns = is_fresh_in (slice_get ns c)
+
+-- each that has changed belongs to a batch
+abbrev pub none_fresh : List Newest → Bool
+none_fresh [] = true
+none_fresh (n ∷ ns) = not n.is_fresh && none_fresh ns
 
 -- it knows this id
 abbrev pub knowing : List ℕ → Newest → Newest

@@ -3,11 +3,12 @@
 mod hosts;
 mod peers;
 
-use crate::events::first_event;
-use crate::moves::batch_at;
+use crate::events::{event_count, first_event};
+use crate::moves::{batch_at, is_fresh_at};
 use crate::newest::Newest;
 use crate::parts::ChannelParts;
 use crate::saved::Saved;
+use ln_batches::Lines;
 use ln_book::{Use, use_of};
 use ln_book_tables::HeldHtlc;
 use ln_channel::{Channel, ChannelMachine, Command, FitConfig, FitSpec};
@@ -56,7 +57,8 @@ impl<K: ChannelKeys + Drop> Drop for Channels<K> {
 
 impl<K: ChannelKeys + Drop> Channels<K> {
     ghost use Rattle.std.specs.Prelude.{◌≡◌, ◌⊎◌, ◌++◌, ◌∷◌, [], length, slice_get, option_copied, IfOk, IfErr, OnOk};
-    ghost use Rattle.std.specs.Prelude.{OnErr};
+    ghost use Rattle.std.specs.Prelude.{OnErr, if◌then◌else◌};
+    ghost use Rattle.ln_batches.specs.Queues.{changed};
     ghost use Rattle.ln_channel.specs.declared.machine.Stage.TheVariants as stage;
     ghost use Rattle.ln_channel.specs.State.{begun};
     ghost use Rattle.ln_history.specs.History.{begun_with};
@@ -68,10 +70,11 @@ impl<K: ChannelKeys + Drop> Channels<K> {
     ghost use Rattle.ln_manager_channels.specs.Calls as call;
     ghost use Rattle.ln_manager_channels.specs.Calls.{Begins, IsOutcome, Makes, no_parts, seats};
     ghost use Rattle.ln_manager_channels.specs.Events as events;
+    ghost use Rattle.ln_manager_channels.specs.Events.{event_count};
     ghost use Rattle.ln_manager_channels.specs.Kept.{parts_of};
     ghost use Rattle.ln_manager_channels.specs.Links.{end_in, halted_in, working_id, number_in, use_in};
     ghost use Rattle.ln_manager_channels.specs.Loading.{SeatsAll, LacksSome, no_seats};
-    ghost use Rattle.ln_manager_channels.specs.Moves.{with_place, batched};
+    ghost use Rattle.ln_manager_channels.specs.Moves.{with_place, batched, is_fresh_at};
     ghost use Rattle.ln_manager_channels.specs.Places.{changed_at};
 
     // ---- what they begin with
@@ -258,15 +261,26 @@ impl<K: ChannelKeys + Drop> Channels<K> {
         self.parts.add(alloc, Link::fundee(keys, config))
     }
 
-    /// The record of a channel belongs to a batch. Takes no memory.
-    pub fn note_batched(&mut self, channel: usize)
-        ensures batched { self.new.parts.records ≡ changed_at channel batched self.old.parts.records }
+    /// The record of a channel belongs to the open batch of these lines, where it has changed. Errors: those of
+    /// `Lines::change`, 46 and 60; nothing has changed then.
+    pub fn batch<M: Drop>(&mut self, lines: &mut Lines<M>, channel: usize) -> Result<(), Refusal>
+        ensures stands_in_the_batch { OnOk result (lines.new ≡ (if is_fresh_at channel self.old.parts.records
+            then changed channel (event_count (end_in (slice_get self.old.parts.links channel))) lines.old
+            else lines.old)) }
+        ensures batched { OnOk result (self.new.parts.records ≡ changed_at channel batched self.old.parts.records) }
+        ensures lines_stay_if_refused { OnErr result (lines.new ≡ lines.old) }
+        ensures records_stay_if_refused { OnErr result (self.new.parts.records ≡ self.old.parts.records) }
         ensures links_stay { self.new.parts.links ≡ self.old.parts.links }
         ensures numbers_stay { self.new.parts.numbers ≡ self.old.parts.numbers }
         ensures book_stays { self.new.parts.book ≡ self.old.parts.book }
-        ensures enters_this_call { Makes K.signer (call.NoteBatched channel) self.old.parts self.new.parts }
+        ensures enters_this_call { OnOk result
+            (Makes K.signer (call.Batch channel) self.old.parts self.new.parts) }
         ensures beginning_stays { self.new.began ≡ self.old.began }
     {
+        if is_fresh_at(&self.parts.records, channel) {
+            lines.change(channel, event_count(self.parts.end(channel)))?;
+        }
         batch_at(&mut self.parts.records, channel);
+        Ok(())
     }
 }

@@ -3,7 +3,7 @@
 ghost use Rattle.std.specs.Prelude.{◌≡◌, slice_get, option_copied};
 ghost use Rattle.ln_channel.specs.State.{drops, halts};
 ghost use Rattle.ln_manager_channels.specs.Moves.{naming_in, with_funding, batched, Connects, Takes, TakesAt, Obeys};
-ghost use Rattle.ln_manager_channels.specs.Moves.{ObeysAt};
+ghost use Rattle.ln_manager_channels.specs.Moves.{ObeysAt, is_fresh_at};
 ghost use Rattle.ln_manager_channels.specs.Places.{changed_at, AnswersAt};
 
 use crate::newest::Newest;
@@ -69,6 +69,16 @@ pub(crate) fn drop_at<K: ChannelKeys + Drop>(links: &mut Vec<Link<K>>, channel: 
 {
     if let Some(link) = links.get_mut(channel) {
         link.drop_connection();
+    }
+}
+
+/// Whether its record has changed, and belongs to no batch.
+pub(crate) fn is_fresh_at(records: &[Newest], channel: usize) -> bool
+    ensures { result ≡ is_fresh_at channel records.now }
+{
+    match records.get(channel) {
+        None => false,
+        Some(newest) => newest.is_fresh,
     }
 }
 

@@ -47,16 +47,16 @@ impl Newest {
 }
 
 impl RecordStore for Newest {
-    ghost use Rattle.std.specs.Prelude.{◌≡◌, Some, IfOk, IfErr, OnOk, OnErr};
+    ghost use Rattle.std.specs.Prelude.{◌≡◌, true, Some, IfOk, IfErr, OnOk, OnErr};
     ghost use Rattle.std.specs.FinMap as map;
+    ghost use Rattle.ln_manager_channels.specs.Moves.{store_of};
 
-    ghost records = { λ s. s.kept };
-
-    ghost failed = { λ _. 0 };
+    ghost store_view = { store_of };
 
     /// Error: 60 alone, where there is no memory; nothing has changed then.
     fn save(&mut self, alloc: Global, id: &[u8; 32], bytes: &[u8]) -> Result<(), Refusal>
         ensures replaces_the_record { OnOk result (self.new.kept ≡ map.insert self.old.kept id.now bytes.now) }
+        ensures is_fresh { OnOk result (self.new.is_fresh ≡ true) }
         ensures leaves_the_old { OnErr result (self.new ≡ self.old) }
         ensures fails_for_memory_alone { IfErr result (λ e. e ≡ Refusal.Memory) }
     {

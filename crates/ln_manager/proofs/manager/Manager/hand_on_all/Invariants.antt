@@ -3,4 +3,4 @@ use Rattle.ln_manager.proofs.manager.Manager.hand_on_all.Given as goal
 
 -- the marks stay
 abbrev pub invariant-loop-output : goal.invariant-loop-output
-invariant-loop-output g l = l.self.is_out.items ≡ l.fn.self.is_out.items
+invariant-loop-output g l = l.self.is_out ≡ l.fn.self.is_out

@@ -5,4 +5,4 @@ use Rattle.ln_manager.proofs.manager.Manager.next_event.Given as goal
 abbrev pub invariant-loop : goal.invariant-loop
 invariant-loop g l =
     (l.self.channels ≡ l.fn.self.channels) × (l.self.lines ≡ l.fn.self.lines)
-    × (l.self.is_out.items ≡ l.fn.self.is_out.items)
+    × (l.self.is_out ≡ l.fn.self.is_out)

@@ -3,4 +3,4 @@ use Rattle.ln_manager.proofs.manager.Manager.sign.Given as goal
 
 -- the marks stay
 abbrev pub invariant-loop : goal.invariant-loop
-invariant-loop g l = l.self.is_out.items ≡ l.fn.self.is_out.items
+invariant-loop g l = l.self.is_out ≡ l.fn.self.is_out

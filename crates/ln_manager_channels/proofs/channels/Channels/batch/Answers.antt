@@ -3,7 +3,7 @@ use Rattle.ln_manager_channels.specs.Calls as call
 use Rattle.ln_manager_channels.specs.Calls.{Parts}
 use Rattle.ln_manager_channels.specs.Kept.{parts_of}
 use Rattle.ln_manager_channels.proofs.Entered.{one_more}
-use Rattle.ln_manager_channels.proofs.channels.Channels.note_batched.Goals as goal
+use Rattle.ln_manager_channels.proofs.channels.Channels.batch.Goals as goal
 
 pub invariant_of-self : goal.invariant_of-self
 invariant_of-self g c =
@@ -15,6 +15,6 @@ invariant_of-self g c =
       numbers = c.self.inside.parts.numbers;
       book = c.self.inside.parts.book;
     } in
-    one_more signer (call.NoteBatched c.args.channel)
+    one_more signer (call.Batch c.args.channel)
     (parts_of c.self.inside.began.told.start) p q c.self.invariant
     (refl, c.batch_at.ensures, (refl, refl))
