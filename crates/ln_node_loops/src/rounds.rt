@@ -465,31 +465,14 @@ where
             met,
         } = self.worker.serve(alloc, own_init, peer, item);
         meet(rt, &mut self.book, met);
-        note(
-            rt,
-            &mut self.book,
-            &self.worker,
-            halted,
-            awaited,
-            beside_reply(subject, answer, written),
-        );
-        let drops = reports_kept(breaks, self.worker.end.is_halted());
-        report(
-            rt,
-            alloc,
-            &mut self.book,
-            &self.worker.end,
-            drops,
-            outputs.as_slice(),
-        );
+        let told = beside_reply(subject, answer, written);
+        note(rt, &mut self.book, &self.worker, halted, awaited, told);
+        let end = &self.worker.end;
+        let drops = reports_kept(breaks, end.is_halted());
+        report(rt, alloc, &mut self.book, end, drops, outputs.as_slice());
         reply(rt, &mut self.orders, subject, answer);
-        self.worker.last = put_outputs(
-            rt,
-            &mut self.tasks,
-            &self.worker.end,
-            self.worker.last,
-            outputs,
-        );
+        let last = self.worker.last;
+        self.worker.last = put_outputs(rt, &mut self.tasks, end, last, outputs);
         stops
     }
 
@@ -521,33 +504,17 @@ where
         let command_subject = command_subject(next, &command);
         let halted = self.worker.end.is_halted();
         let obeyed = self.worker.obey(alloc, command);
-        let answer = answer_to(command_subject, obeyed.answer);
+        let done = obeyed.answer;
+        let outputs = obeyed.outputs;
+        let answer = answer_to(command_subject, done);
         self.book.answered(rt, channel, answer);
         let waits = waits(answer);
         *busy = is_busy(*busy, waits);
-        note_command(
-            rt,
-            &mut self.book,
-            &self.worker,
-            halted,
-            waits,
-            obeyed.answer,
-        );
-        report(
-            rt,
-            alloc,
-            &mut self.book,
-            &self.worker.end,
-            false,
-            obeyed.outputs.as_slice(),
-        );
-        self.worker.last = put_outputs(
-            rt,
-            &mut self.tasks,
-            &self.worker.end,
-            self.worker.last,
-            obeyed.outputs,
-        );
+        note_command(rt, &mut self.book, &self.worker, halted, waits, done);
+        let end = &self.worker.end;
+        report(rt, alloc, &mut self.book, end, false, outputs.as_slice());
+        let last = self.worker.last;
+        self.worker.last = put_outputs(rt, &mut self.tasks, end, last, outputs);
     }
 
     // Whether a signature is due: it is to sign by itself, and its end owes one.
@@ -585,6 +552,7 @@ where
         *busy = true;
         let halted = self.worker.end.is_halted();
         let obeyed = self.worker.obey(alloc, Command::Sign);
+        let outputs = obeyed.outputs;
         note(
             rt,
             &mut self.book,
@@ -593,21 +561,10 @@ where
             false,
             obeyed.answer,
         );
-        report(
-            rt,
-            alloc,
-            &mut self.book,
-            &self.worker.end,
-            false,
-            obeyed.outputs.as_slice(),
-        );
-        self.worker.last = put_outputs(
-            rt,
-            &mut self.tasks,
-            &self.worker.end,
-            self.worker.last,
-            obeyed.outputs,
-        );
+        let end = &self.worker.end;
+        report(rt, alloc, &mut self.book, end, false, outputs.as_slice());
+        let last = self.worker.last;
+        self.worker.last = put_outputs(rt, &mut self.tasks, end, last, outputs);
     }
 
     // Loads a halted end, and puts those of its pending events that weren't put yet.
@@ -630,21 +587,10 @@ where
         }
         let answer = self.worker.load(alloc);
         let told = self.worker.pending_behind(rt, alloc, answer);
-        report_load(
-            rt,
-            alloc,
-            &mut self.book,
-            &self.worker.end,
-            answer,
-            told.as_slice(),
-        );
-        self.worker.last = put_events(
-            rt,
-            &mut self.tasks,
-            &self.worker.end,
-            self.worker.last,
-            told,
-        );
+        let end = &self.worker.end;
+        report_load(rt, alloc, &mut self.book, end, answer, told.as_slice());
+        let last = self.worker.last;
+        self.worker.last = put_events(rt, &mut self.tasks, end, last, told);
     }
 }
 

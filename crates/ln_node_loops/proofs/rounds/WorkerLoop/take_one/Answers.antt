@@ -21,7 +21,7 @@ returns g c =
     let awaits = awaits_init c.args.self.now.worker.phase in
     let halted = c.is_halted-halted.result in
     let had = g.E.End.halted (g.E.End.state c.args.self.now.worker.end) in
-    let said = c.beside_reply.result in
+    let said = c.beside_reply-told.result in
     let phase = c.serve-outputs.new.self.phase in
     let halts = g.E.End.halted (g.E.End.state c.serve-outputs.new.self.end) in
     record {
@@ -50,7 +50,7 @@ returns g c =
           ∙ append_assoc noted (meets met) (became awaited halted said phase halts)
           ∙ ap (λ b. noted ++ (meets met ++ became b halted said phase halts)) c.awaits_init-awaited.ensures
           ∙ ap (λ b. noted ++ (meets met ++ became awaits b said phase halts)) c.is_halted-halted.ensures
-          ∙ ap (λ r. noted ++ (meets met ++ became awaits had r phase halts)) (c.beside_reply.ensures
+          ∙ ap (λ r. noted ++ (meets met ++ became awaits had r phase halts)) (c.beside_reply-told.ensures
           ∙ ap (λ s. beside_reply s answer written) c.subject_in-subject.ensures));
       stops = λ is. c.in-Some.ensures.appends
           ∙ ap (λ t. g.I.Receives.taken c.args.self.now.items ++ t ∷ [])
