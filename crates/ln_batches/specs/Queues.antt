@@ -1,6 +1,8 @@
 -- Lines of many channels, and the batches of records that stand before their messages.
-use Rattle.std.specs.Prelude.{ℕ, ◌+◌, List, [], ◌∷◌, ◌++◌, Bool, true, false, Option, Some, None, ◌==◌, ◌&&◌}
-use Rattle.std.specs.Prelude.{nat_le, not, slice_get, slice_set, if◌then◌else◌}
+use Rattle.std.specs.Prelude.{◌≡◌, ◌⊎◌, ℕ, ◌+◌, ◌-◌, ◌^◌, List, [], ◌∷◌, ◌++◌, Bool, true, false, Option, Some, None}
+use Rattle.std.specs.Prelude.{◌==◌, ◌&&◌, nat_le, not, slice_get, slice_set, if◌then◌else◌}
+use Rattle.ln_refusals.specs.declared.refusal.Refusal.{Refusal}
+use Rattle.ln_refusals.specs.declared.refusal.Refusal.TheVariants as refusal
 use Rattle.ln_batches.specs.declared.row.Waiting.{Waiting}
 
 -- what waits in one channel
@@ -33,6 +35,14 @@ no_queue = record {
   open_channels = [];
   closed_channels = [];
 }
+
+-- numbers are of 64 bits
+abbrev pub last_number : ℕ
+last_number = 2 ^ 64 - 1
+
+-- 60, or 46 where the last number is reached
+abbrev pub IsSpent : ℕ → Refusal → Type 0
+IsSpent n e = (e ≡ refusal.Memory) ⊎ ((e ≡ refusal.NumbersSpent) × (n ≡ last_number))
 
 -- of a channel whose saved record tells of so many events
 abbrev pub new_row : {M : Type 0} → ℕ → Row M

@@ -49,11 +49,11 @@ impl<M: Drop> Model for Lines<M> {
 
 impl<M: Drop> Lines<M> {
     ghost use Rattle.std.specs.Prelude.{◌≡◌, Some, None, true, false, OnOk, OnErr, IfOk, IfErr, IfSome, IsErrOf};
-    ghost use Rattle.std.specs.Prelude.{option_copied, ◌↔◌, IfNone};
+    ghost use Rattle.std.specs.Prelude.{option_copied, ◌↔◌, ◌⊎◌, ◌&&◌, IfNone};
     ghost use Rattle.ln_batches.specs.Queues.{no_queue, with_channel, changed, pushed, lost, first_at, may_leave};
     ghost use Rattle.ln_batches.specs.Queues.{is_out};
     ghost use Rattle.ln_batches.specs.Queues.{handed, is_with_host, sent, can_close, closed, saved, is_closed};
-    ghost use Rattle.ln_batches.specs.Queues.{saved_events};
+    ghost use Rattle.ln_batches.specs.Queues.{saved_events, last_number, IsSpent};
 
     /// Of no channel. Takes no memory.
     pub fn new(alloc: Global) -> Lines<M>
@@ -101,6 +101,7 @@ impl<M: Drop> Lines<M> {
     /// has changed then.
     pub fn change(&mut self, channel: usize, events: u64) -> Result<(), Refusal>
         ensures changed { OnOk result (self.new ≡ changed channel events self.old) }
+        ensures refuses_for_a_reason { IfErr result (IsSpent self.old.records) }
         ensures changes_nothing_if_refused { OnErr result (self.new ≡ self.old) }
     {
         let Some(row) = self.rows.get_mut(channel) else {
@@ -138,6 +139,7 @@ impl<M: Drop> Lines<M> {
     /// Errors: 60, and 46 where 2^64 - 1 messages have come; nothing has changed then.
     pub fn push(&mut self, channel: usize, message: M) -> Result<(), Refusal>
         ensures pushed { OnOk result (self.new ≡ pushed channel message self.old) }
+        ensures refuses_for_a_reason { IfErr result (IsSpent self.old.next_number) }
         ensures changes_nothing_if_refused { OnErr result (self.new ≡ self.old) }
     {
         if let Err(refusal) = self.list(channel) {
@@ -279,6 +281,8 @@ impl<M: Drop> Lines<M> {
         ensures has_left { OnOk result (self.new ≡ sent channel self.old) }
         ensures only_what_may { OnOk result ((is_with_host channel number self.old ≡ true)
             × (may_leave self.old (first_at channel self.old) ≡ true)) }
+        ensures refuses_for_a_reason { IfErr result (λ e. (e ≡ Refusal.Memory) ⊎ ((e ≡ Refusal.NotReady)
+            × ((is_with_host channel number self.old && may_leave self.old (first_at channel self.old)) ≡ false))) }
         ensures changes_nothing_if_refused { OnErr result (self.new ≡ self.old) }
     {
         if !self.is_with_host(channel, number) || !self.may_leave(channel) {
@@ -319,6 +323,8 @@ impl<M: Drop> Lines<M> {
     pub fn close(&mut self) -> Result<u64, Refusal>
         ensures closed { IfOk result (λ b. (self.new ≡ closed self.old) × (b ≡ self.new.batches)) }
         ensures refuses_if_it_cannot { IsErrOf result Refusal.NotReady ↔ (can_close self.old ≡ false) }
+        ensures else_only_where_numbers_are_spent { IfErr result (λ e. (e ≡ Refusal.NotReady)
+            ⊎ ((e ≡ Refusal.NumbersSpent) × (self.old.batches ≡ last_number))) }
         ensures changes_nothing_if_refused { OnErr result (self.new ≡ self.old) }
     {
         if !self.can_close() {
@@ -365,6 +371,8 @@ impl<M: Drop> Lines<M> {
     pub fn save(&mut self, batch: u64) -> Result<(), Refusal>
         ensures saved { OnOk result (self.new ≡ saved self.old) }
         ensures only_the_closed_one { OnOk result (is_closed batch self.old ≡ true) }
+        ensures refuses_for_a_reason { IfErr result (λ e. (e ≡ Refusal.Memory)
+            ⊎ ((e ≡ Refusal.NotReady) × (is_closed batch self.old ≡ false))) }
         ensures changes_nothing_if_refused { OnErr result (self.new ≡ self.old) }
     {
         if self.closed_records == self.saved_records || batch != self.batches {
