@@ -159,19 +159,29 @@ fn make_place<T: Drop>(places: &mut Vec<T>, channel: usize, value: T) -> Result<
 
 impl<K: ChannelKeys + Drop, O: Onion + Drop> Manager<K, O> {
     ghost use Rattle.std.specs.Prelude.{◌≡◌, true, false, Some, None, slice_get, Ok, Err, IfOk, IfErr, IfSome, IfNone};
-    ghost use Rattle.std.specs.Prelude.{OnOk, OnErr};
+    ghost use Rattle.std.specs.Prelude.{OnOk, OnErr, ◌⊎◌, ◌++◌, ◌∷◌, [], ◌&&◌, length, option_copied};
     ghost use Rattle.ln_batches.specs.Queues as lines;
-    ghost use Rattle.ln_batches.specs.Queues.{first_at, may_leave, handed, is_out, sent, closed, saved, saved_events};
-    ghost use Rattle.ln_batches.specs.Queues.{is_closed};
+    ghost use Rattle.ln_batches.specs.Queues.{no_queue, first_at, may_leave, handed, is_out, sent, closed, saved};
+    ghost use Rattle.ln_batches.specs.Queues.{saved_events, is_closed, can_close};
+    ghost use Rattle.ln_channel.specs.declared.machine.Stage.TheVariants as stage;
+    ghost use Rattle.ln_channel.specs.State.{begun};
+    ghost use Rattle.ln_history.specs.History.{with_entry};
+    ghost use Rattle.ln_book_tables.specs.declared.entry.Entry.TheVariants as entry;
+    ghost use Rattle.ln_book_tables.specs.Held.{all_held};
+    ghost use Rattle.ln_book_tables.specs.Replay.{table_of};
     ghost use Rattle.ln_manager.specs.Events.{decided_in, event_for_host, is_for_host, is_with_host, marked_at};
     ghost use Rattle.ln_manager.specs.Events.{may_decide};
     ghost use Rattle.ln_manager.specs.Batches.{listed, record_of, records_of};
-    ghost use Rattle.ln_manager_channels.specs.Links.{end_in};
-    ghost use Rattle.ln_manager_channels.specs.Moves.{none_fresh};
+    ghost use Rattle.ln_manager_channels.specs.Books.{height_answer, with_height};
+    ghost use Rattle.ln_manager_channels.specs.Calls.{no_parts};
+    ghost use Rattle.ln_manager_channels.specs.Links.{end_in, halted_in, number_in};
+    ghost use Rattle.ln_manager_channels.specs.Moves.{none_fresh, naming_in, with_funding};
+    ghost use Rattle.ln_manager_channels.specs.Places.{changed_at};
 
     // Over these channels, whose records stand in batches.
     fn over(alloc: Global, onion: O, policy: Policy, channels: Channels<K>) -> Manager<K, O>
         requires { none_fresh channels.parts.records ≡ true }
+        ensures { result ≡ record { channels = channels; lines = no_queue; is_out = [] } }
     {
         Manager {
             channels,
@@ -190,29 +200,42 @@ impl<K: ChannelKeys + Drop, O: Onion + Drop> Manager<K, O> {
 
     /// Of no channel. It opens onions by this service, and asks for what it forwards what this policy says. Takes no
     /// memory.
-    pub fn new(alloc: Global, onion: O, policy: Policy) -> Manager<K, O> {
+    pub fn new(alloc: Global, onion: O, policy: Policy) -> Manager<K, O>
+        ensures begins_with_none { result.channels.began ≡ no_parts }
+        ensures has_none { result.channels.parts ≡ no_parts }
+        ensures nothing_waits { result.lines ≡ no_queue }
+        ensures nothing_is_with_the_host { result.is_out ≡ [] }
+    {
         Manager::over(alloc, onion, policy, Channels::new(alloc))
     }
 
     // ---- looked at
 
     /// How many channels there are. Takes no memory.
-    pub fn channel_count(&self) -> usize {
+    pub fn channel_count(&self) -> usize
+        ensures { result ≡ length self.now.channels.parts.links }
+    {
         self.channels.len()
     }
 
     /// What the link of a channel is, to be looked at. Takes no memory.
-    pub fn machine(&self, channel: usize) -> Option<&ChannelMachine<K>> {
+    pub fn machine(&self, channel: usize) -> Option<&ChannelMachine<K>>
+        ensures { option_copied result ≡ slice_get self.now.channels.parts.links channel }
+    {
         self.channels.machine(channel)
     }
 
     /// Whether the link of a channel has halted: it answers 62 until all channels are loaded anew. Takes no memory.
-    pub fn has_halted(&self, channel: usize) -> bool {
+    pub fn has_halted(&self, channel: usize) -> bool
+        ensures { result ≡ halted_in (slice_get self.now.channels.parts.links channel) }
+    {
         self.channels.has_halted(channel)
     }
 
     /// The number of the channel that has this id, or awaits it. Takes no memory.
-    pub fn number_of(&self, id: &ChannelId) -> Option<usize> {
+    pub fn number_of(&self, id: &ChannelId) -> Option<usize>
+        ensures { result ≡ number_in self.now.channels.parts.numbers self.now.channels.parts.links id.now }
+    {
         self.channels.number_of(id)
     }
 
@@ -222,14 +245,20 @@ impl<K: ChannelKeys + Drop, O: Onion + Drop> Manager<K, O> {
     }
 
     /// The HTLCs that are held, of all channels. Error: 60 alone.
-    pub fn held(&self, alloc: Global) -> Result<Vec<HeldHtlc>, Refusal> {
+    pub fn held(&self, alloc: Global) -> Result<Vec<HeldHtlc>, Refusal>
+        ensures lists_what_is_held { IfOk result (λ v. v.items ≡ all_held (table_of self.now.channels.parts.book)) }
+        ensures fails_for_memory_alone { IfErr result (λ r. r ≡ Refusal.Memory) }
+    {
         self.channels.held(alloc)
     }
 
     // ---- channels are added
 
     // A line for the channel of this number, unless it has one. Error: 60 alone.
-    fn make_line(&mut self, alloc: Global, channel: usize, events: u64) -> Result<(), Refusal> {
+    fn make_line(&mut self, alloc: Global, channel: usize, events: u64) -> Result<(), Refusal>
+        ensures channels_stay { self.new.channels ≡ self.old.channels }
+        ensures fails_for_memory_alone { IfErr result (λ r. r ≡ Refusal.Memory) }
+    {
         if self.line_count <= channel {
             self.lines.add(alloc, events)?;
             self.line_count = self.line_count.saturating_add(1);
@@ -239,7 +268,10 @@ impl<K: ChannelKeys + Drop, O: Onion + Drop> Manager<K, O> {
 
     // Places for the channel of this number, whose saved record tells of so many events. What lacks memory is made by
     // the next call. Error: 60 alone.
-    fn make_places(&mut self, alloc: Global, channel: usize, events: u64) -> Result<(), Refusal> {
+    fn make_places(&mut self, alloc: Global, channel: usize, events: u64) -> Result<(), Refusal>
+        ensures channels_stay { self.new.channels ≡ self.old.channels }
+        ensures fails_for_memory_alone { IfErr result (λ r. r ≡ Refusal.Memory) }
+    {
         self.due.make_place(channel)?;
         self.unsigned.make_place(channel)?;
         self.untold.make_place(channel)?;
@@ -249,7 +281,14 @@ impl<K: ChannelKeys + Drop, O: Onion + Drop> Manager<K, O> {
     }
 
     /// A channel that this side asks for by this spec: its number. Error: 60 alone, which adds none.
-    pub fn add_funder(&mut self, alloc: Global, keys: K, spec: FitSpec) -> Result<usize, Refusal> {
+    pub fn add_funder(&mut self, alloc: Global, keys: K, spec: FitSpec) -> Result<usize, Refusal>
+        ensures adds { OnOk result (self.new.channels.parts.links
+            ≡ self.old.channels.parts.links ++ begun keys (stage.AwaitsAccept spec) ∷ []) }
+        ensures is_the_next { IfOk result (λ c. c ≡ length self.old.channels.parts.links) }
+        ensures adds_none_if_refused { OnErr result (self.new.channels.parts.links ≡ self.old.channels.parts.links) }
+        ensures fails_for_memory_alone { IfErr result (λ r. r ≡ Refusal.Memory) }
+        ensures book_stays { self.new.channels.parts.book ≡ self.old.channels.parts.book }
+    {
         let channel = self.channels.len();
         if let Err(refusal) = self.make_places(alloc, channel, 0) {
             drop(keys);
@@ -267,7 +306,14 @@ impl<K: ChannelKeys + Drop, O: Onion + Drop> Manager<K, O> {
         alloc: Global,
         keys: K,
         config: FitConfig,
-    ) -> Result<usize, Refusal> {
+    ) -> Result<usize, Refusal>
+        ensures adds { OnOk result (self.new.channels.parts.links
+            ≡ self.old.channels.parts.links ++ begun keys (stage.AwaitsOpen config) ∷ []) }
+        ensures is_the_next { IfOk result (λ c. c ≡ length self.old.channels.parts.links) }
+        ensures adds_none_if_refused { OnErr result (self.new.channels.parts.links ≡ self.old.channels.parts.links) }
+        ensures fails_for_memory_alone { IfErr result (λ r. r ≡ Refusal.Memory) }
+        ensures book_stays { self.new.channels.parts.book ≡ self.old.channels.parts.book }
+    {
         let channel = self.channels.len();
         if let Err(refusal) = self.make_places(alloc, channel, 0) {
             drop(keys);
@@ -286,7 +332,14 @@ impl<K: ChannelKeys + Drop, O: Onion + Drop> Manager<K, O> {
         txid: [u8; 32],
         output: u16,
     ) -> Result<(), Refusal>
-        ensures marks_stay { self.new.is_out ≡ self.old.is_out }
+        ensures answer { result ≡ naming_in (slice_get self.old.channels.parts.links channel) }
+        ensures names_it { self.new ≡ record self.old {
+          channels = record self.old.channels {
+            parts = record self.old.channels.parts {
+              links = changed_at channel (with_funding txid output) self.old.channels.parts.links;
+            };
+          };
+        } }
     {
         self.channels.name_funding(channel, txid, output)
     }
@@ -856,6 +909,10 @@ impl<K: ChannelKeys + Drop, O: Onion + Drop> Manager<K, O> {
         event: u64,
         verdict: Verdict,
     ) -> Result<(), Refusal>
+        ensures refuses_a_halted_link { halted_in (slice_get self.old.channels.parts.links channel) ≡ true
+            → (result ≡ Err Refusal.Halted) × (self.new ≡ self.old) }
+        ensures only_of_a_link_that_works { OnOk result
+            (halted_in (slice_get self.old.channels.parts.links channel) ≡ false) }
         ensures marks_stay { self.new.is_out ≡ self.old.is_out }
     {
         if self.channels.has_halted(channel) {
@@ -880,7 +937,12 @@ impl<K: ChannelKeys + Drop, O: Onion + Drop> Manager<K, O> {
 
     /// The block height from now on. Error: 40 above 400,000,000.
     pub fn set_height(&mut self, height: u32) -> Result<(), Refusal>
-        ensures marks_stay { self.new.is_out ≡ self.old.is_out }
+        ensures answer { result ≡ height_answer height }
+        ensures enters_the_height { self.new ≡ record self.old {
+          channels = record self.old.channels {
+            parts = record self.old.channels.parts { book = with_height height self.old.channels.parts.book };
+          };
+        } }
     {
         self.channels.set_height(height)
     }
@@ -892,7 +954,18 @@ impl<K: ChannelKeys + Drop, O: Onion + Drop> Manager<K, O> {
         secret: [u8; 32],
         amount: u64,
     ) -> Result<(), Refusal>
-        ensures marks_stay { self.new.is_out ≡ self.old.is_out }
+        ensures enters_the_invoice { OnOk result (self.new ≡ record self.old {
+          channels = record self.old.channels {
+            parts = record self.old.channels.parts {
+              book = with_entry (entry.Expect (record {
+                preimage = preimage;
+                expected = record { secret = secret; amount = amount };
+              })) self.old.channels.parts.book;
+            };
+          };
+        }) }
+        ensures changes_nothing_if_refused { OnErr result (self.new ≡ self.old) }
+        ensures fails_for_memory_alone { IfErr result (λ r. r ≡ Refusal.Memory) }
     {
         self.channels.expect(preimage, secret, amount)
     }
@@ -948,6 +1021,7 @@ impl<K: ChannelKeys + Drop, O: Onion + Drop> Manager<K, O> {
         ensures closes { IfOk result (λ o. IfSome o (λ b. (self.new.lines ≡ closed self.old.lines)
             × (b.number ≡ self.new.lines.batches))) }
         ensures or_nothing { IfOk result (λ o. IfNone o (self.new.lines ≡ self.old.lines)) }
+        ensures where_there_is_none { IfOk result (λ o. IfNone o (can_close self.old.lines ≡ false)) }
         ensures changes_nothing_if_refused { OnErr result (self.new.lines ≡ self.old.lines) }
     {
         if !self.lines.can_close() {
@@ -966,8 +1040,7 @@ impl<K: ChannelKeys + Drop, O: Onion + Drop> Manager<K, O> {
 
     // The channels of the closed batch may have events for the host.
     fn list_untold(&mut self)
-        ensures marks_stay { self.new.is_out ≡ self.old.is_out }
-        ensures lines_stay { self.new.lines ≡ self.old.lines }
+        ensures nothing_is_seen_of_it { self.new ≡ self.old }
     {
         for channel in self.lines.closed_channels() {
             self.untold.list(*channel);
@@ -980,6 +1053,9 @@ impl<K: ChannelKeys + Drop, O: Onion + Drop> Manager<K, O> {
         ensures marks_stay { self.new.is_out ≡ self.old.is_out }
         ensures saved { OnOk result (self.new.lines ≡ saved self.old.lines) }
         ensures only_the_closed_one { OnOk result (is_closed batch self.old.lines ≡ true) }
+        ensures refuses_for_a_reason { IfErr result (λ e. (e ≡ Refusal.Memory)
+            ⊎ ((e ≡ Refusal.NotReady) × (is_closed batch self.old.lines ≡ false))) }
+        ensures channels_stay { self.new.channels ≡ self.old.channels }
         ensures changes_nothing_if_refused { OnErr result (self.new.lines ≡ self.old.lines) }
     {
         self.list_untold();
@@ -995,17 +1071,24 @@ impl<K: ChannelKeys + Drop, O: Onion + Drop> Manager<K, O> {
         ensures hands_out_once { IfOk result (λ o. IfSome o (λ c. is_out c self.old.lines ≡ false)) }
         ensures or_nothing { IfOk result (λ o. IfNone o (self.new.lines ≡ self.old.lines)) }
         ensures changes_nothing_if_refused { OnErr result (self.new.lines ≡ self.old.lines) }
+        ensures fails_for_memory_alone { IfErr result (λ r. r ≡ Refusal.Memory) }
+        ensures channels_stay { self.new.channels ≡ self.old.channels }
     {
         self.lines.next()
     }
 
     /// The first message of a channel. Takes no memory.
-    pub fn first_message(&self, channel: usize) -> Option<&Waiting<Posted>> {
+    pub fn first_message(&self, channel: usize) -> Option<&Waiting<Posted>>
+        ensures { option_copied result ≡ first_at channel self.now.lines }
+    {
         self.lines.first(channel)
     }
 
     /// What is blank in the first message of a channel is filled, and the message comes again. Error: 60 alone.
     pub fn fill(&mut self, channel: usize, filling: Filling) -> Result<(), Refusal>
+        ensures fails_for_memory_alone { IfErr result (λ r. r ≡ Refusal.Memory) }
+        ensures changes_nothing_if_refused { OnErr result (self.new ≡ self.old) }
+        ensures channels_stay { self.new.channels ≡ self.old.channels }
         ensures marks_stay { self.new.is_out ≡ self.old.is_out }
     {
         self.lines.fill(channel, filling)
@@ -1017,7 +1100,11 @@ impl<K: ChannelKeys + Drop, O: Onion + Drop> Manager<K, O> {
         ensures has_left { OnOk result (self.new.lines ≡ sent channel self.old.lines) }
         ensures only_what_may { OnOk result ((lines.is_with_host channel number self.old.lines ≡ true)
             × (may_leave self.old.lines (first_at channel self.old.lines) ≡ true)) }
+        ensures refuses_for_a_reason { IfErr result (λ e. (e ≡ Refusal.Memory) ⊎ ((e ≡ Refusal.NotReady)
+            × ((lines.is_with_host channel number self.old.lines
+            && may_leave self.old.lines (first_at channel self.old.lines)) ≡ false))) }
         ensures changes_nothing_if_refused { OnErr result (self.new.lines ≡ self.old.lines) }
+        ensures channels_stay { self.new.channels ≡ self.old.channels }
     {
         self.lines.send(channel, number)
     }
