@@ -1,6 +1,6 @@
 //! A routing node without threads.
 
-ghost use Rattle.std.specs.Prelude.{◌≡◌, ◌||◌, true, List};
+ghost use Rattle.std.specs.Prelude.{◌≡◌, ◌||◌, true, List, IfErr};
 ghost use Rattle.ln_manager.specs.Managed.{ChangesOneAt, if_batched};
 ghost use Rattle.ln_manager_channels.specs.Moves.{none_fresh};
 
@@ -148,7 +148,9 @@ fn given_if(batched: Result<(), Refusal>, given: Given) -> Given {
 }
 
 // A place for the channel of this number, unless it has one. Error: 60 alone.
-fn make_place<T: Drop>(places: &mut Vec<T>, channel: usize, value: T) -> Result<(), Refusal> {
+fn make_place<T: Drop>(places: &mut Vec<T>, channel: usize, value: T) -> Result<(), Refusal>
+    ensures fails_for_memory_alone { IfErr result (λ r. r ≡ Refusal.Memory) }
+{
     if places.len() <= channel {
         places.push(value)?;
     } else {

@@ -12,6 +12,8 @@ pub struct Turns {
 }
 
 impl Turns {
+    ghost use Rattle.std.specs.Prelude.{◌≡◌, IfErr};
+
     /// Of no channel. Takes no memory.
     pub fn new(alloc: Global) -> Turns {
         Turns {
@@ -22,7 +24,9 @@ impl Turns {
 
     /// A place for the channel of this number, unless it has one, so that none lacks memory as it is listed. Error: 60
     /// alone.
-    pub fn make_place(&mut self, channel: usize) -> Result<(), Refusal> {
+    pub fn make_place(&mut self, channel: usize) -> Result<(), Refusal>
+        ensures fails_for_memory_alone { IfErr result (λ r. r ≡ Refusal.Memory) }
+    {
         if self.is_waiting.len() <= channel {
             self.waiting
                 .reserve(self.is_waiting.len().saturating_add(1))?;
