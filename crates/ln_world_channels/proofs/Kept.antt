@@ -61,22 +61,24 @@ use Rattle.ln_channel_laws.specs.Closes.{CloseOnceDone}
 use Rattle.ln_world_channels.specs.declared.step.Act.{Act}
 use Rattle.ln_world_channels.specs.declared.step.Act.TheVariants as act
 use Rattle.ln_world_channels.specs.declared.step.Node.{Node}
+use Rattle.ln_world_channels.specs.declared.step.RecordLeft.{RecordLeft}
+use Rattle.ln_world_channels.specs.declared.step.RecordLeft.TheVariants as record_left
 use Rattle.ln_world_channels.specs.Settings.{channel_id_of}
 use Rattle.ln_world_channels.specs.declared.step.End.{End as WorldEnd}
-use Rattle.ln_world_channels.specs.Both.{Both, By, Disconnects, Halts, Restarts, Stops, Meet, acts, swapped, moves}
-use Rattle.ln_world_channels.specs.Both.{may_come_up}
+use Rattle.ln_world_channels.specs.Both.{Both, SimEnd, By, Disconnects, Halts, Restarts, Stops, HaltsAfter, Meet, acts}
+use Rattle.ln_world_channels.specs.Both.{swapped, moves, may_come_up, from, halted, restarted}
 use Rattle.ln_world_channels.specs.Both.{run as run_both}
 use Rattle.ln_world_channels.specs.WorldChannel.{WorldChannel, by, side_of, moved, may_meet, act_moves}
 use Rattle.ln_world_channels.specs.WorldChannel.{disconnect_moves}
 use Rattle.ln_world_channels.specs.WorldChannel.{restart_moves}
-use Rattle.ln_world_channels.specs.WorldChannel.{halt_moves, stop_moves, up_moves, place_of}
+use Rattle.ln_world_channels.specs.WorldChannel.{halt_moves, stop_moves, up_moves, place_of, failed_save_moves}
 use Rattle.ln_world_channels.specs.Promises.{AtEnd, AtEnds, Headline, TakesFront, NoneRefused, AgreeOnceSigned, Agrees}
 use Rattle.ln_world_channels.specs.Promises.{FeesOverlap, AcceptsFront, AllTaken, OneFee, HaveAnswered, AnswersShutdown}
 use Rattle.ln_world_channels.specs.Promises.{ReadinessAgrees, BothClose}
 use Rattle.ln_world_channels.specs.Records.{IsAct}
 use Rattle.ln_world_channels.proofs.Mirror.{link_of, without_warnings, IsInbox, Mirrors, flipped, plain}
 use Rattle.ln_world_channels.proofs.Mirror.{is_awake, unless_halted}
-use Rattle.ln_world_channels.proofs.Dropped.{are_dropped, ran_so}
+use Rattle.ln_world_channels.proofs.Dropped.{IsDropped, are_dropped, ran_so}
 use Rattle.ln_world_channels.proofs.Stops.{ends_stopped, stopped_so, stopped_says}
 use Rattle.ln_world_channels.proofs.Moves.{Goes, Says, Tells, IsAside, saved_if, out_of, handled_so, passed_so}
 use Rattle.ln_world_channels.proofs.Moves.{delivered}
@@ -225,6 +227,7 @@ IsMove (Disconnects side) = Unit {0}
 IsMove (Halts side) = Unit {0}
 IsMove (Restarts side) = Unit {0}
 IsMove (Stops side a) = IsAct a
+IsMove (HaltsAfter side a) = IsAct a
 IsMove Meet = Unit {0}
 
 -- the steps of two ends, and how they were opened, bring what records have room for
@@ -648,15 +651,24 @@ module _ {K : Type 0} (signer : K → Signer) where
       went_by id p _ r h.steps (tale_of id (By side a) p) (IsAct a) h.wide h.mirrors h.x h.y h.moves_are h.told_x
       h.told_y
 
-  -- ---- its node stops after the act: it loses its connection, and all that it has sent in the act
+  -- ---- its node stops after the act, or its save fails: it loses its connection, and all that it has sent in the act
 
   abbrev breaks : Role → ℕ → List Step
   breaks side n = pair.By side pair.Lose ∷ pair.By side (pair.Cut n) ∷ []
 
-  stopped_went : (id : List ℕ) (side : Role) (a : Act) (p : Both K) (r : IsRun id p)
-      → Went id p (moves signer id (Stops side a) p) r (tale_of id (Stops side a) p) (IsAct a)
+  -- what is made of an end where its connection is lost
+  abbrev IsLoss : List ℕ → (SimEnd K → SimEnd K) → Type 0
+  IsLoss id f = (kx ky : K) (p : Both K) (q : Ends) → IsDropped q.x_line q.x → Mirrors id kx ky p q
+      → Mirrors id kx ky (record { x = f p.x; y = p.y }) (pair.acts (signer kx) pair.Lose q)
+
+  -- as the act leaves it, and then its connection is lost; the other end isn't touched
+  abbrev broken : List ℕ → Act → (SimEnd K → SimEnd K) → Both K → Both K
+  broken id a f p = record { x = f (acts signer id a p).x; y = p.y }
+
+  broken_went : (id : List ℕ) (side : Role) (a : Act) (f : SimEnd K → SimEnd K) (p : Both K) (r : IsRun id p)
+      → IsLoss id f → Went id p (from side (broken id a f) p) r (tale_of id (Stops side a) p) (IsAct a)
   unfolding moves
-  stopped_went id Funder a p r =
+  broken_went id Funder a f p r loses =
       let x = signer r.funders in
       let y = signer r.fundees in
       let q = ends_of id p r in
@@ -668,11 +680,12 @@ module _ {K : Type 0} (signer : K → Signer) where
       let ss = breaks Funder cut.left in
       let is = run-append x y h.steps ss q in
       let said = stopped_says x q behind cut in
+      let now = moves signer id (By Funder a) p in
       went_by id p _ r (h.steps ++ ss) (tale_of id (Stops Funder a) p) (IsAct a)
       (λ wide. all-append StepIsWide h.steps ss (h.wide wide) (tt, (tt, tt)))
-      (subst (λ w. Mirrors id r.funders r.fundees (moves signer id (Stops Funder a) p) w) (sym is)
-      (stopped_so signer id r.funders r.fundees p (moves signer id (By Funder a) p) q behind cut dropped.x r.mirrors
-      h.mirrors))
+      (subst (λ w. Mirrors id r.funders r.fundees (broken id a f p) w) (sym is)
+      (stopped_so signer id r.funders r.fundees (f now.x) now.y p q behind cut r.mirrors
+      (loses r.funders r.fundees now behind dropped.x h.mirrors)))
       (ap (λ (w : Ends). w.said_x) is ∙ said.0 ∙ h.x)
       (ap (λ (w : Ends). w.said_y) is ∙ said.1 ∙ h.y)
       (moves-append x y h.steps ss q ∙ ap (λ ms. ms ++ pair_moves.all_moves x y ss behind) h.moves_are
@@ -681,7 +694,7 @@ module _ {K : Type 0} (signer : K → Signer) where
       ∙ ap (λ (l : State K). is_down l.connection) (sym r.mirrors.x_link))))
       (ap events_in (told-append x y Funder h.steps ss q ∙ append-nil _) ∙ h.told_x)
       (ap events_in (told-append x y Fundee h.steps ss q ∙ append-nil _) ∙ h.told_y)
-  stopped_went id Fundee a p r =
+  broken_went id Fundee a f p r loses =
       let x = signer r.funders in
       let y = signer r.fundees in
       let q = ends_of id p r in
@@ -694,13 +707,15 @@ module _ {K : Type 0} (signer : K → Signer) where
       let ss = breaks Fundee cut.left in
       let is = run-append x y h.steps ss q in
       let said = stopped_says y (pair.turned q) (pair.turned behind) cut in
+      let now = swapped (moves signer id (By Fundee a) p) in
       went_by id p _ r (h.steps ++ ss) (tale_of id (Stops Fundee a) p) (IsAct a)
       (λ wide. all-append StepIsWide h.steps ss (h.wide wide) (tt, (tt, tt)))
-      (subst (λ w. Mirrors id r.funders r.fundees (moves signer id (Stops Fundee a) p) w) (sym is)
+      (subst (λ w. Mirrors id r.funders r.fundees (swapped (broken id a f (swapped p))) w) (sym is)
       (flipped id r.fundees r.funders _ (ends_stopped y cut.left (pair.turned behind))
-      (stopped_so signer id r.fundees r.funders (swapped p) (swapped (moves signer id (By Fundee a) p)) (pair.turned q)
-      (pair.turned behind) cut dropped.y (flipped id r.funders r.fundees p q r.mirrors)
-      (flipped id r.funders r.fundees (moves signer id (By Fundee a) p) behind h.mirrors))))
+      (stopped_so signer id r.fundees r.funders (f now.x) now.y (swapped p) (pair.turned q) (pair.turned behind) cut
+      (flipped id r.funders r.fundees p q r.mirrors)
+      (loses r.fundees r.funders now (pair.turned behind) dropped.y
+      (flipped id r.funders r.fundees (moves signer id (By Fundee a) p) behind h.mirrors)))))
       (ap (λ (w : Ends). w.said_x) is ∙ said.1 ∙ h.x)
       (ap (λ (w : Ends). w.said_y) is ∙ said.0 ∙ h.y)
       (moves-append x y h.steps ss q ∙ ap (λ ms. ms ++ pair_moves.all_moves x y ss behind) h.moves_are
@@ -709,6 +724,22 @@ module _ {K : Type 0} (signer : K → Signer) where
       ∙ ap (λ (l : State K). is_down l.connection) (sym r.mirrors.y_link))))
       (ap events_in (told-append x y Funder h.steps ss q ∙ append-nil _) ∙ h.told_x)
       (ap events_in (told-append x y Fundee h.steps ss q ∙ append-nil _) ∙ h.told_y)
+
+  stopped_went : (id : List ℕ) (side : Role) (a : Act) (p : Both K) (r : IsRun id p)
+      → Went id p (moves signer id (Stops side a) p) r (tale_of id (Stops side a) p) (IsAct a)
+  unfolding moves
+  stopped_went id Funder a p r =
+      broken_went id Funder a restarted p r (λ kx ky p q d h. restarted_so signer id kx ky p q d h)
+  stopped_went id Fundee a p r =
+      broken_went id Fundee a restarted p r (λ kx ky p q d h. restarted_so signer id kx ky p q d h)
+
+  halted_after_went : (id : List ℕ) (side : Role) (a : Act) (p : Both K) (r : IsRun id p)
+      → Went id p (moves signer id (HaltsAfter side a) p) r (tale_of id (HaltsAfter side a) p) (IsAct a)
+  unfolding moves
+  halted_after_went id Funder a p r =
+      broken_went id Funder a halted p r (λ kx ky p q d h. halted_so signer id kx ky p q h)
+  halted_after_went id Fundee a p r =
+      broken_went id Fundee a halted p r (λ kx ky p q d h. halted_so signer id kx ky p q h)
 
   -- a connection of x's is lost, whatever becomes of its link
   lost_went : (id : List ℕ) (side : Role) (p p' : Both K) (r : IsRun id p)
@@ -792,6 +823,7 @@ module _ {K : Type 0} (signer : K → Signer) where
   is_possible (Halts side) p = true
   is_possible (Restarts side) p = true
   is_possible (Stops side a) p = true
+  is_possible (HaltsAfter side a) p = true
   is_possible Meet p = may_meet p
 
   abbrev pub ArePossible : List ℕ → List Move → Both K → Type 0
@@ -805,6 +837,7 @@ module _ {K : Type 0} (signer : K → Signer) where
   went id (Halts side) p e r = halted_went id side p r
   went id (Restarts side) p e r = restarted_went id side p r
   went id (Stops side a) p e r = stopped_went id side a p r
+  went id (HaltsAfter side a) p e r = halted_after_went id side a p r
   went id Meet p e r = came_up_went id p e r
 
   -- ---- a channel, and what has come of it since it was opened
@@ -923,6 +956,11 @@ module _ {K : Type 0} (signer : K → Signer) where
   halted_by id None p r = r
   halted_by id (Some side) p r = (halted_went id side p r).run
 
+  halted_after_by : (id : List ℕ) (o : Option Role) (a : Act) (p : Both K) → IsRun id p
+      → IsRun id (run_both signer id (by o (λ side. HaltsAfter side a)) p)
+  halted_after_by id None a p r = r
+  halted_after_by id (Some side) a p r = (halted_after_went id side a p r).run
+
   restarted_by : (id : List ℕ) (o : Option Role) (p : Both K) → IsRun id p
       → IsRun id (run_both signer id (by o Restarts) p)
   restarted_by id None p r = r
@@ -951,6 +989,11 @@ module _ {K : Type 0} (signer : K → Signer) where
 
   pub halt_kept : (n : Node) (c : WorldChannel K) → IsOpen c → IsOpen (moved signer (halt_moves n) c)
   halt_kept n c h = halted_by (channel_id_of c.number) (side_of n c) c.both h
+
+  pub failed_save_kept : (left : RecordLeft) (n : Node) (a : Act) (c : WorldChannel K) → IsOpen c
+      → IsOpen (moved signer (failed_save_moves left n a) c)
+  failed_save_kept record_left.Old n a c h = halt_kept n c h
+  failed_save_kept record_left.New n a c h = halted_after_by (channel_id_of c.number) (side_of n c) a c.both h
 
   pub restart_kept : (n : Node) (c : WorldChannel K) → IsOpen c → IsOpen (moved signer (restart_moves n) c)
   restart_kept n c h = restarted_by (channel_id_of c.number) (side_of n c) c.both h

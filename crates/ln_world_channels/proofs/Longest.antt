@@ -28,23 +28,27 @@ use Rattle.ln_world_channels.specs.declared.step.Act.TheVariants as act
 use Rattle.ln_world_channels.specs.declared.step.Node.{Node}
 use Rattle.ln_world_channels.specs.declared.step.End.{End as WorldEnd}
 use Rattle.ln_world_channels.specs.declared.step.Open.{Open}
+use Rattle.ln_world_channels.specs.declared.step.RecordLeft.{RecordLeft}
+use Rattle.ln_world_channels.specs.declared.step.RecordLeft.TheVariants as record_left
 use Rattle.ln_world_channels.specs.declared.step.Step.{Step}
 use Rattle.ln_world_channels.specs.declared.step.Step.TheVariants as step
 use Rattle.ln_world_channels.specs.Settings.{channel_id_of, may_bring}
-use Rattle.ln_world_channels.specs.Both.{Both, SimEnd, By, Disconnects, Halts, Restarts, Stops, Meet, reaches, left}
+use Rattle.ln_world_channels.specs.Both.{Both, SimEnd, By, Disconnects, Halts, Restarts, Stops, HaltsAfter, Meet}
+use Rattle.ln_world_channels.specs.Both.{reaches, left}
 use Rattle.ln_world_channels.specs.Both.{unchanged, acts}
 use Rattle.ln_world_channels.specs.Both.{delivers, greeted, back, restarted, swapped, moves, run as run_both}
 use Rattle.ln_world_channels.specs.WorldChannel.{WorldChannel, by, side_of, is_node, moved, may_meet, act_moves}
 use Rattle.ln_world_channels.specs.WorldChannel.{disconnect_moves}
 use Rattle.ln_world_channels.specs.WorldChannel.{halt_moves, restart_moves, stop_moves, up_moves, opened_by}
-use Rattle.ln_world_channels.specs.World.{World, settings_of, channel, may_open, may_be_done, happens, empty}
-use Rattle.ln_world_channels.specs.World.{run as run_world}
+use Rattle.ln_world_channels.specs.WorldChannel.{failed_save_moves}
+use Rattle.ln_world_channels.specs.World.{World, settings_of, channel, may_open, may_be_done, may_reload, happens}
+use Rattle.ln_world_channels.specs.World.{empty, run as run_world}
 use Rattle.ln_world_channels.specs.Promises.{AtEnd, Each, OfEach}
 use Rattle.ln_world_channels.specs.Longest.{HasLongest, HaveLongest, BasesAreLongest}
 use Rattle.ln_world_channels.proofs.Mirror.{Mirrors}
 use Rattle.ln_world_channels.proofs.Opened.{first_saves}
 use Rattle.ln_world_channels.proofs.Kept.{IsRun, IsOpen, ends_of, act_kept, fall_kept, halt_kept, restart_kept}
-use Rattle.ln_world_channels.proofs.Kept.{stop_kept}
+use Rattle.ln_world_channels.proofs.Kept.{stop_kept, failed_save_kept}
 use Rattle.ln_world_channels.proofs.Kept.{up_kept, at_links}
 use Rattle.ln_world_channels.proofs.Promised.{brings_so, opened_run, moved_so}
 use Rattle.ln_world_channels.proofs.Promised.{all_so, joined_so, either_so, there_so}
@@ -238,6 +242,17 @@ module _ {K : Type 0} (signer : K → Signer) where
       let q = acts signer id a (swapped p) in
       (h.0, restarted_exact q.x (acts_exact id a (swapped p) (y_longest id (swapped q) r) h.1))
 
+  halts_after_exact : (id : List ℕ) (side : Role) (a : Act) (p : Both K)
+      → IsRun signer id (moves signer id (By side a) p)
+      → BothExact p → BothExact (moves signer id (HaltsAfter side a) p)
+  unfolding moves
+  halts_after_exact id Funder a p r h =
+      let q = acts signer id a p in
+      (drops_exact q.x.link (acts_exact id a p (x_longest id q r) h.0), h.1)
+  halts_after_exact id Fundee a p r h =
+      let q = acts signer id a (swapped p) in
+      (h.0, drops_exact q.x.link (acts_exact id a (swapped p) (y_longest id (swapped q) r) h.1))
+
   falls_exact : (id : List ℕ) (side : Role) (p : Both K) → BothExact p
       → BothExact (moves signer id (Disconnects side) p)
   unfolding moves
@@ -293,6 +308,18 @@ module _ {K : Type 0} (signer : K → Signer) where
       by_side : (o : Option Role) → BothExact (run_both signer (channel_id_of c.number) (by o Halts) c.both)
       by_side None = h.1
       by_side (Some side) = halts_exact (channel_id_of c.number) side c.both h.1
+
+  failed_save_lasts : (left : RecordLeft) (n : Node) (a : Act) (c : WorldChannel K) → IsLasting c
+      → IsLasting (moved signer (failed_save_moves left n a) c)
+  failed_save_lasts record_left.Old n a c h = halt_lasts n c h
+  failed_save_lasts record_left.New n a c h =
+      (failed_save_kept signer record_left.New n a c h.0, by_side (side_of n c) (act_kept signer n a c h.0))
+    where
+      by_side : (o : Option Role) → IsRun signer (channel_id_of c.number)
+          (run_both signer (channel_id_of c.number) (by o (λ side. By side a)) c.both)
+          → BothExact (run_both signer (channel_id_of c.number) (by o (λ side. HaltsAfter side a)) c.both)
+      by_side None r = h.1
+      by_side (Some side) r = halts_after_exact (channel_id_of c.number) side a c.both r h.1
 
   restart_by : (id : List ℕ) (o : Option Role) (p : Both K) → BothExact p
       → BothExact (run_both signer id (by o Restarts) p)
@@ -355,6 +382,10 @@ module _ {K : Type 0} (k : Ghosts K) where
       (fall_lasts k.signer e.node) w.channels h
   lasts (step.NoMemory e a) w h = there_so k (IsLasting k.signer) (may_be_done e a w.channels) e.channel
       (halt_moves e.node) (halt_lasts k.signer e.node) w h
+  lasts (step.SaveFails e a left) w h = there_so k (IsLasting k.signer) (may_be_done e a w.channels) e.channel
+      (failed_save_moves left e.node a) (failed_save_lasts k.signer left e.node a) w h
+  lasts (step.Reload e) w h = there_so k (IsLasting k.signer) (may_reload e w.channels) e.channel
+      (restart_moves e.node) (restart_lasts k.signer e.node) w h
   lasts (step.Restart n) w h = all_so k (IsLasting k.signer) (restart_moves n) (restart_lasts k.signer n)
       w.channels h
   lasts (step.StopBefore e a) w h = either_so k (IsLasting k.signer) (may_be_done e a w.channels)

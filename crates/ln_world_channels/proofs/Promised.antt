@@ -26,16 +26,16 @@ use Rattle.ln_world_channels.specs.Settings.{config_of, spec_of, txid_of, channe
 use Rattle.ln_world_channels.specs.Settings.{may_bring, may_ask, can_be_told, CanBring, CanBeTold}
 use Rattle.ln_world_channels.specs.Both.{Both, Move}
 use Rattle.ln_world_channels.specs.WorldChannel.{WorldChannel, is_node, moved, opened_by, act_moves, disconnect_moves}
-use Rattle.ln_world_channels.specs.WorldChannel.{restart_moves, up_moves, halt_moves, stop_moves}
+use Rattle.ln_world_channels.specs.WorldChannel.{restart_moves, up_moves, halt_moves, stop_moves, failed_save_moves}
 use Rattle.ln_world_channels.specs.World.{World, settings_of, channel, moved_at, all_moved, may_open, happens}
-use Rattle.ln_world_channels.specs.World.{at, everywhere, may_be_done, empty, run}
+use Rattle.ln_world_channels.specs.World.{at, everywhere, may_be_done, may_reload, empty, run}
 use Rattle.ln_world_channels.specs.Promises.{Headline, NoneRefused, AllTaken, OneFee, Agrees, Each}
 use Rattle.ln_world_channels.specs.Promises.{OfEach}
 use Rattle.ln_world_channels.specs.Promises.{AnswersShutdown, ReadinessAgrees, BothClose, DoExactly}
 use Rattle.ln_world_channels.proofs.Fitting.{funders, fundees}
 use Rattle.ln_world_channels.proofs.Opened.{first_saves, mirrored, fees_so, opening_so}
 use Rattle.ln_world_channels.proofs.Kept.{IsRun, IsOpen, act_kept, fall_kept, halt_kept, restart_kept, stop_kept}
-use Rattle.ln_world_channels.proofs.Kept.{up_kept}
+use Rattle.ln_world_channels.proofs.Kept.{up_kept, failed_save_kept}
 use Rattle.ln_world_channels.proofs.Kept.{Tale, IsTold}
 use Rattle.ln_world_channels.proofs.Kept as channels
 use Rattle.ln_world_channels.proofs.Doing as doing
@@ -244,6 +244,12 @@ module _ {K : Type 0} (k : Ghosts K) where
   happened (step.NoMemory e a) w h =
       there_so (IsOpen k.signer) (may_be_done e a w.channels) e.channel (halt_moves e.node)
       (halt_kept k.signer e.node) w h
+  happened (step.SaveFails e a left) w h =
+      there_so (IsOpen k.signer) (may_be_done e a w.channels) e.channel (failed_save_moves left e.node a)
+      (failed_save_kept k.signer left e.node a) w h
+  happened (step.Reload e) w h =
+      there_so (IsOpen k.signer) (may_reload e w.channels) e.channel (restart_moves e.node)
+      (restart_kept k.signer e.node) w h
   happened (step.Restart n) w h = all_so (IsOpen k.signer) (restart_moves n) (restart_kept k.signer n) w.channels h
   happened (step.StopBefore e a) w h =
       either_so (IsOpen k.signer) (may_be_done e a w.channels) (restart_moves e.node) (restart_kept k.signer e.node) w h

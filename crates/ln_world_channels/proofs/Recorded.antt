@@ -20,18 +20,22 @@ use Rattle.ln_world_channels.specs.declared.step.Act.{Act}
 use Rattle.ln_world_channels.specs.declared.step.Act.TheVariants as act
 use Rattle.ln_world_channels.specs.declared.step.Node.{Node}
 use Rattle.ln_world_channels.specs.declared.step.Open.{Open}
+use Rattle.ln_world_channels.specs.declared.step.RecordLeft.{RecordLeft}
+use Rattle.ln_world_channels.specs.declared.step.RecordLeft.TheVariants as record_left
 use Rattle.ln_world_channels.specs.declared.step.Step.{Step}
 use Rattle.ln_world_channels.specs.declared.step.Step.TheVariants as step
 use Rattle.ln_world_channels.specs.declared.settings.Settings.{Settings}
 use Rattle.ln_world_channels.specs.Settings.{channel_id_of, may_bring, CanBring}
-use Rattle.ln_world_channels.specs.Both.{Both, Move, By, Disconnects, Halts, Restarts, Stops, Meet, moves, unheard}
+use Rattle.ln_world_channels.specs.Both.{Both, Move, By, Disconnects, Halts, Restarts, Stops, HaltsAfter, Meet, moves}
+use Rattle.ln_world_channels.specs.Both.{unheard}
 use Rattle.ln_world_channels.specs.Both.{run as run_both}
 use Rattle.ln_world_channels.specs.WorldChannel.{WorldChannel, is_node, by, side_of, moved, may_meet, opened_by}
 use Rattle.ln_world_channels.specs.WorldChannel.{act_moves}
 use Rattle.ln_world_channels.specs.WorldChannel.{disconnect_moves, halt_moves, restart_moves, stop_moves, up_moves}
+use Rattle.ln_world_channels.specs.WorldChannel.{failed_save_moves}
 use Rattle.ln_world_channels.specs.WorldChannel.{acted_unheard, side_unheard, place_of, opening_moves}
 use Rattle.ln_world_channels.specs.World.{World, settings_of, channel, may_open, joined, happens, may_be_done}
-use Rattle.ln_world_channels.specs.World.{empty, run}
+use Rattle.ln_world_channels.specs.World.{may_reload, empty, run}
 use Rattle.ln_world_channels.specs.Failing.{LinkLacks, SideLacks, ActLacks, ActLacksIn, MovesLack, OpenLacks, MayFail}
 use Rattle.ln_world_channels.specs.Failing.{SomeMayFail}
 use Rattle.ln_world_channels.specs.Promises.{Each, OfEach}
@@ -44,7 +48,7 @@ use Rattle.ln_world_channels.proofs.Kept.{IsRun, IsWideRun, ends_of, IsMove, Are
 use Rattle.ln_world_channels.proofs.Promised.{brings_so, opened_run, keys_so}
 use Rattle.ln_world_channels.proofs.Promised.{moved_so, all_so, joined_so, either_so, there_so}
 use Rattle.ln_world_channels.proofs.Told.{MayMake, acts_possible, falls_possible, halts_possible, restarts_possible}
-use Rattle.ln_world_channels.proofs.Told.{stops_possible, ups_possible}
+use Rattle.ln_world_channels.proofs.Told.{failed_saves_possible, stops_possible, ups_possible}
 use Rattle.ln_world_channels.proofs.Stopping.{lacks_acted}
 use Rattle.ln_world_channels.proofs.Opened.{at_first, asked, accepted, created, signed, both_open, they_meet}
 use Rattle.ln_world_channels.proofs.Opened.{takes_open}
@@ -74,6 +78,11 @@ stops_bring : (b : Bool) (o : Option Role) (a : Act) → IsAct a
     → Each IsMove (cond b (by o (λ side. Stops side a)) (by o Restarts))
 stops_bring true o a h = bring_by o (λ side. Stops side a) (λ side. h)
 stops_bring false o a h = bring_by o Restarts (λ side. tt)
+
+failed_saves_bring : {K : Type 0} (left : RecordLeft) (n : Node) (a : Act) (c : WorldChannel K) → IsAct a
+    → Each IsMove (failed_save_moves left n a c)
+failed_saves_bring record_left.Old n a c h = bring_by (side_of n c) Halts (λ side. tt)
+failed_saves_bring record_left.New n a c h = bring_by (side_of n c) (λ side. HaltsAfter side a) (λ side. h)
 
 ups_bring : (b : Bool) → Each IsMove (cond b (Meet ∷ []) [])
 ups_bring true = (tt, tt)
@@ -141,6 +150,13 @@ module _ {K : Type 0} (k : Ghosts K) where
   stays_fit (step.NoMemory e a) w is h =
       there_so k IsFitChannel (may_be_done e a w.channels) e.channel (halt_moves e.node) (kept_by (halt_moves e.node)
       (halts_possible k e.node) (λ c. bring_by (side_of e.node c) Halts (λ side. tt))) w h
+  stays_fit (step.SaveFails e a left) w is h =
+      there_so k IsFitChannel (may_be_done e a w.channels) e.channel (failed_save_moves left e.node a)
+      (kept_by (failed_save_moves left e.node a) (failed_saves_possible k left e.node a)
+      (λ c. failed_saves_bring left e.node a c is)) w h
+  stays_fit (step.Reload e) w is h =
+      there_so k IsFitChannel (may_reload e w.channels) e.channel (restart_moves e.node) (kept_by (restart_moves e.node)
+      (restarts_possible k e.node) (λ c. bring_by (side_of e.node c) Restarts (λ side. tt))) w h
   stays_fit (step.Restart n) w is h =
       all_so k IsFitChannel (restart_moves n) (kept_by (restart_moves n) (restarts_possible k n)
       (λ c. bring_by (side_of n c) Restarts (λ side. tt))) w.channels h
@@ -287,7 +303,12 @@ module _ {K : Type 0} (k : Ghosts K) where
       none_behind e.channel e.node a w.channels is h lacks.1
   never_in (step.Down e) w is h fails = absurd (cc)
   never_in (step.Restart n) w is h fails = absurd (cc)
+  never_in (step.Reload e) w is h fails = absurd (cc)
   never_in (step.NoMemory e a) w is h fails = absurd (cc)
+  never_in (step.SaveFails e a left) w is h (inl r) = absurd (cc)
+  never_in (step.SaveFails e a record_left.Old) w is h (inr lacks) = lacks.1
+  never_in (step.SaveFails e a record_left.New) w is h (inr lacks) =
+      none_behind e.channel e.node a w.channels is h lacks.1
   never_in (step.StopBefore e a) w is h fails = absurd (cc)
   never_in (step.StopAfter e a) w is h (inl r) = absurd (cc)
   never_in (step.StopAfter e a) w is h (inr lacks) =

@@ -15,10 +15,10 @@ use Rattle.ln_world_channels.specs.Settings.{channel_id_of, may_bring, CanBring}
 use Rattle.ln_world_channels.specs.Both.{Both, Move}
 use Rattle.ln_world_channels.specs.Both.{run as run_both}
 use Rattle.ln_world_channels.specs.WorldChannel.{WorldChannel, is_node, moved, opened_by, act_moves, disconnect_moves}
-use Rattle.ln_world_channels.specs.WorldChannel.{restart_moves, up_moves, halt_moves, stop_moves}
+use Rattle.ln_world_channels.specs.WorldChannel.{restart_moves, up_moves, halt_moves, stop_moves, failed_save_moves}
 use Rattle.ln_world_channels.specs.World.{World, settings_of, channel, moved_if, moved_at, all_moved, may_open, joined}
 use Rattle.ln_world_channels.specs.World.{happens}
-use Rattle.ln_world_channels.specs.World.{at, everywhere, may_be_done, empty, run}
+use Rattle.ln_world_channels.specs.World.{at, everywhere, may_be_done, may_reload, empty, run}
 use Rattle.ln_world_channels.specs.Setup.{setup_by, setup_in, all_setups, OpensAsSet}
 use Rattle.ln_world_channels.proofs.Opened.{fees_so, opening_so}
 use Rattle.ln_world_channels.proofs.Kept.{IsRun, ArePossible, went, setup_at, as_set_up}
@@ -26,7 +26,7 @@ use Rattle.ln_world_channels.proofs.Promised.{opened_run, brings_so}
 use Rattle.ln_world_channels.proofs.Told.{MayMake, or_else, moved_or_not, found_moved, found_in_all, found_joined}
 use Rattle.ln_world_channels.proofs.Told.{none_so}
 use Rattle.ln_world_channels.proofs.Told.{acts_possible, falls_possible, halts_possible, restarts_possible}
-use Rattle.ln_world_channels.proofs.Told.{stops_possible}
+use Rattle.ln_world_channels.proofs.Told.{stops_possible, failed_saves_possible}
 use Rattle.ln_world_channels.proofs.Told.{ups_possible}
 
 -- ---- a channel, with what it was set up with
@@ -163,6 +163,11 @@ module _ {K : Type 0} (k : Ghosts K) where
       goes e.channel (disconnect_moves e.node) n w.channels ds (falls_possible k e.node) h
   step_stands n (step.NoMemory e a) w ds h =
       halts (may_be_done e a w.channels) e.channel (halt_moves e.node) n w ds (halts_possible k e.node) h
+  step_stands n (step.SaveFails e a left) w ds h =
+      halts (may_be_done e a w.channels) e.channel (failed_save_moves left e.node a) n w ds
+      (failed_saves_possible k left e.node a) h
+  step_stands n (step.Reload e) w ds h =
+      halts (may_reload e w.channels) e.channel (restart_moves e.node) n w ds (restarts_possible k e.node) h
   step_stands n (step.Restart m) w ds h =
       all_go (restart_moves m) n w.channels ds (restarts_possible k m) h
   step_stands n (step.StopBefore e a) w ds h =

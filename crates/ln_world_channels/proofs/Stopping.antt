@@ -1,4 +1,5 @@
 -- Where a node stops after an act of its end, that end is as the act leaves it, and then the node's ends come back.
+-- Where the end halts after its act, it is as the act leaves it, and then halts.
 use Rattle.std.proofs.Common.{◌≡◌, ℕ, List, [], ◌∷◌, refl, sym, ap, ◌∙◌, subst, Bool, true, false, cond, ◌==◌}
 use Rattle.std.proofs.Common.{Option, Some, None}
 use Rattle.ln_msgs.specs.declared.messages.message.Message.{Message}
@@ -9,12 +10,12 @@ use Rattle.ln_world_channels.specs.declared.step.Act.{Act}
 use Rattle.ln_world_channels.specs.declared.step.Act.TheVariants as act
 use Rattle.ln_world_channels.specs.declared.step.End.{End}
 use Rattle.ln_world_channels.specs.Settings.{channel_id_of}
-use Rattle.ln_world_channels.specs.Both.{Both, SimEnd, By, Restarts, Stops, moves, swapped, delivers, acts, restarted}
-use Rattle.ln_world_channels.specs.Both.{delivered_unheard, unheard}
+use Rattle.ln_world_channels.specs.Both.{Both, SimEnd, By, Halts, Restarts, Stops, HaltsAfter, moves, swapped, delivers}
+use Rattle.ln_world_channels.specs.Both.{acts, halted, restarted, delivered_unheard, unheard}
 use Rattle.ln_world_channels.specs.Both.{run as run_both}
 use Rattle.ln_world_channels.specs.WorldChannel.{WorldChannel, by, side_of, place_of, moved, restart_moves, stop_moves}
-use Rattle.ln_world_channels.specs.WorldChannel.{side_unheard, acted_unheard}
-use Rattle.ln_world_channels.specs.World.{all_moved, unheard_at}
+use Rattle.ln_world_channels.specs.WorldChannel.{halt_moves, halt_after_moves, side_unheard, acted_unheard}
+use Rattle.ln_world_channels.specs.World.{all_moved, moved_at, moved_if, changed_if, unheard_at}
 use Rattle.ln_world_channels.specs.Failing.{LinkLacks}
 
 module _ {K : Type 0} (signer : K → Signer) where
@@ -73,3 +74,46 @@ module _ {K : Type 0} (signer : K → Signer) where
       ap (λ d. d ∷ all_moved signer (restart_moves e.node) (unheard_at signer e a cs))
       (one_stopped e a (c.number == e.channel) c)
       ∙ ap (λ ds. moved signer (stop_moves e a) c ∷ ds) (all_stopped e a cs)
+
+  -- ---- the end halts as the act leaves it
+
+  both_halted : (id : List ℕ) (a : Act) (o : Option Role) (p : Both K)
+      → run_both signer id (by o Halts) (side_unheard signer a o p)
+      ≡ run_both signer id (by o (λ side. HaltsAfter side a)) p
+  unfolding moves
+  both_halted id a None p = refl
+  both_halted id a (Some Funder) p =
+      ap (λ (x : SimEnd K). as_both (halted x) p.y) (sym (unheard_so id a p))
+  both_halted id a (Some Fundee) p =
+      ap (λ (y : SimEnd K). as_both p.x (halted y)) (sym (unheard_so id a (swapped p)))
+
+  one_halted : (e : End) (a : Act) (b : Bool) (c : WorldChannel K)
+      → cond b (moved signer (halt_moves e.node) (cond b (acted_unheard signer e.node a c) c))
+      (cond b (acted_unheard signer e.node a c) c)
+      ≡ cond b (moved signer (halt_after_moves e.node a) c) c
+  one_halted e a false c = refl
+  one_halted e a true c =
+      ap (λ p. record { number = c.number; funder = c.funder; fundee = c.fundee; both = p })
+      (both_halted (channel_id_of c.number) a (side_of e.node c) c.both)
+
+  same_number : (e : End) (a : Act) (b : Bool) (c : WorldChannel K)
+      → (cond b (acted_unheard signer e.node a c) c).number ≡ c.number
+  same_number e a true c = refl
+  same_number e a false c = refl
+
+  one_halted_if : (e : End) (a : Act) (c : WorldChannel K)
+      → moved_if signer e.channel (halt_moves e.node) (changed_if e.channel (acted_unheard signer e.node a) c)
+      ≡ moved_if signer e.channel (halt_after_moves e.node a) c
+  one_halted_if e a c =
+      let d = changed_if e.channel (acted_unheard signer e.node a) c in
+      ap (λ n. cond (n == e.channel) (moved signer (halt_moves e.node) d) d)
+      (same_number e a (c.number == e.channel) c)
+      ∙ one_halted e a (c.number == e.channel) c
+
+  pub halted_there : (e : End) (a : Act) (cs : List (WorldChannel K))
+      → moved_at signer e.channel (halt_moves e.node) (unheard_at signer e a cs)
+      ≡ moved_at signer e.channel (halt_after_moves e.node a) cs
+  halted_there e a [] = refl
+  halted_there e a (c ∷ cs) =
+      ap (λ d. d ∷ moved_at signer e.channel (halt_moves e.node) (unheard_at signer e a cs)) (one_halted_if e a c)
+      ∙ ap (λ ds. moved_if signer e.channel (halt_after_moves e.node a) c ∷ ds) (halted_there e a cs)

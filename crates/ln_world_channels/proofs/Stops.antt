@@ -1,5 +1,5 @@
--- A node that stops after an act of its end, told from that end: the links are at the ends of a pair after the act,
--- the loss of the connection, and the loss of all that the act has sent.
+-- A node that stops after an act of its end, or an end that halts after one, told from that end: the links are at the
+-- ends of a pair after the act, the loss of the connection, and the loss of all that the act has sent.
 use Rattle.std.proofs.Common.{◌≡◌, ℕ, List, [], refl, sym, ap, ◌∙◌, subst, true}
 use Rattle.ln_keys.specs.Signer.{Signer}
 use Rattle.ln_channel.specs.declared.machine.ConnectionState.TheVariants.{Down}
@@ -8,24 +8,22 @@ use Rattle.ln_channel.specs.State.{is_down}
 use Rattle.ln_channel_laws.specs.Ends.{Ends, Lose, Cut}
 use Rattle.ln_channel_laws.specs.Ends as pair
 use Rattle.ln_channel_laws.proofs.Offered.{IsCutOff}
-use Rattle.ln_world_channels.specs.Both.{Both, restarted}
+use Rattle.ln_world_channels.specs.Both.{Both, SimEnd}
 use Rattle.ln_world_channels.proofs.Mirror.{link_at, IsInbox, Mirrors}
-use Rattle.ln_world_channels.proofs.Dropped.{IsDropped}
-use Rattle.ln_world_channels.proofs.Moves.{restarted_so, lost_says}
+use Rattle.ln_world_channels.proofs.Moves.{lost_says}
 
 -- x is cut off, with what this many messages leave of what it has sent
 abbrev pub ends_stopped : Signer → ℕ → Ends → Ends
 ends_stopped keys n r = pair.acts keys (Cut n) (pair.acts keys Lose r)
 
 module _ {K : Type 0} (signer : K → Signer) (id : List ℕ) (kx ky : K) where
-  -- p at the ends q, and p' at the ends r, which are x's act after these
-  pub stopped_so : (p p' : Both K) (q r : Ends) (cut : IsCutOff q (pair.acts (signer kx) Lose r))
-      → IsDropped r.x_line r.x → Mirrors id kx ky p q → Mirrors id kx ky p' r
-      → Mirrors id kx ky (record { x = restarted p'.x; y = p.y }) (ends_stopped (signer kx) cut.left r)
-  stopped_so p p' q r cut dropped h h' =
+  -- p at the ends q; and x with another end at what r is once x has lost its connection, where r is x's act after q
+  pub stopped_so : (x y : SimEnd K) (p : Both K) (q r : Ends) (cut : IsCutOff q (pair.acts (signer kx) Lose r))
+      → Mirrors id kx ky p q → Mirrors id kx ky (record { x = x; y = y }) (pair.acts (signer kx) Lose r)
+      → Mirrors id kx ky (record { x = x; y = p.y }) (ends_stopped (signer kx) cut.left r)
+  stopped_so x y p q r cut h g =
       let s : Ends = pair.acts (signer kx) Lose r in
-      let g = restarted_so signer id kx ky p' r dropped h' in
-      subst (λ w. Mirrors id kx ky (record { x = restarted p'.x; y = p.y }) w) (sym cut.cut) (record {
+      subst (λ w. Mirrors id kx ky (record { x = x; y = p.y }) w) (sym cut.cut) (record {
         x_halted = g.x_halted;
         y_halted = h.y_halted;
         x_link = g.x_link;

@@ -18,17 +18,20 @@ use Rattle.ln_channel_laws.proofs.Offered.{closes_last, handed_last, run_after}
 use Rattle.ln_world_channels.specs.declared.step.Act.{Act}
 use Rattle.ln_world_channels.specs.declared.step.Node.{Node}
 use Rattle.ln_world_channels.specs.declared.step.Open.{Open}
+use Rattle.ln_world_channels.specs.declared.step.RecordLeft.{RecordLeft}
+use Rattle.ln_world_channels.specs.declared.step.RecordLeft.TheVariants as record_left
 use Rattle.ln_world_channels.specs.declared.step.Step.{Step}
 use Rattle.ln_world_channels.specs.declared.step.Step.TheVariants as step
 use Rattle.ln_world_channels.specs.Settings.{channel_id_of, opening_by, may_bring}
 use Rattle.ln_world_channels.specs.declared.step.End.{End}
-use Rattle.ln_world_channels.specs.Both.{Both, Move, By, Disconnects, Halts, Restarts, Stops, Meet}
+use Rattle.ln_world_channels.specs.Both.{Both, Move, By, Disconnects, Halts, Restarts, Stops, HaltsAfter, Meet}
 use Rattle.ln_world_channels.specs.WorldChannel.{WorldChannel, is_node, by, side_of, moved, may_meet, opened_by}
 use Rattle.ln_world_channels.specs.WorldChannel.{act_moves}
 use Rattle.ln_world_channels.specs.WorldChannel.{disconnect_moves, halt_moves, restart_moves, stop_moves, up_moves}
+use Rattle.ln_world_channels.specs.WorldChannel.{failed_save_moves}
 use Rattle.ln_world_channels.specs.World.{World, settings_of, channel, moved_if, moved_at, all_moved, may_open, joined}
 use Rattle.ln_world_channels.specs.World.{happens}
-use Rattle.ln_world_channels.specs.World.{at, everywhere, may_be_done, empty, run}
+use Rattle.ln_world_channels.specs.World.{at, everywhere, may_be_done, may_reload, empty, run}
 use Rattle.ln_world_channels.specs.Course.{step_moves, in_channel, over}
 use Rattle.ln_world_channels.specs.Sending.{sends, sent_in, NoneAddsLate}
 use Rattle.ln_world_channels.specs.Machine.{machine_of, moves_of, moves_in, history, tells, told_in, all_told}
@@ -119,6 +122,11 @@ module _ {K : Type 0} (k : Ghosts K) where
 
   pub halts_possible : (n : Node) → MayMake (halt_moves n)
   halts_possible n c = by_possible (channel_id_of c.number) c.both (side_of n c) Halts (λ side. (refl, tt))
+
+  pub failed_saves_possible : (left : RecordLeft) (n : Node) (a : Act) → MayMake (failed_save_moves left n a)
+  failed_saves_possible record_left.Old n a c = halts_possible n c
+  failed_saves_possible record_left.New n a c =
+      by_possible (channel_id_of c.number) c.both (side_of n c) (λ side. HaltsAfter side a) (λ side. (refl, tt))
 
   pub restarts_possible : (n : Node) → MayMake (restart_moves n)
   restarts_possible n c = by_possible (channel_id_of c.number) c.both (side_of n c) Restarts (λ side. (refl, tt))
@@ -245,7 +253,7 @@ module _ {K : Type 0} (k : Ghosts K) where
       subst (λ o. Recounts o (then t (tale_for s w [] (channel n cs)))) (sym (found_in_all n f cs))
       (all_told_of s w f (channel n cs) t may is h)
 
-  -- an end that halts, where it can act
+  -- an end that halts, where it can act, or that comes back, where it has halted
   halts_so : (b : Bool) (s : Step K k) (w : World K) (m : ℕ) (f : WorldChannel K → List Move) (n : ℕ) (t : Tale)
       → MayMake f → ((c : WorldChannel K) → step_moves k s w c ≡ cond b (cond (c.number == m) (f c) []) [])
       → Recounts (channel n w.channels) t
@@ -275,6 +283,12 @@ module _ {K : Type 0} (k : Ghosts K) where
   step_told n (step.NoMemory e a) w t h =
       halts_so (may_be_done e a w.channels) (step.NoMemory e a) w e.channel (halt_moves e.node) n t
       (halts_possible e.node) (λ c. refl) h
+  step_told n (step.SaveFails e a left) w t h =
+      halts_so (may_be_done e a w.channels) (step.SaveFails e a left) w e.channel (failed_save_moves left e.node a) n t
+      (failed_saves_possible left e.node a) (λ c. refl) h
+  step_told n (step.Reload e) w t h =
+      halts_so (may_reload e w.channels) (step.Reload e) w e.channel (restart_moves e.node) n t
+      (restarts_possible e.node) (λ c. refl) h
   step_told n (step.Restart m) w t h =
       all_go_so (step.Restart m) w (restart_moves m) n w.channels t (restarts_possible m) (λ c. refl) h
   step_told n (step.StopBefore e a) w t h =

@@ -110,14 +110,14 @@ disconnects p = record { x = disconnected p.x; y = p.y }
 
 -- ---- an end has no memory for what it was to do
 
--- it begins nothing of that: it loses its connection, and answers nothing until its node restarts
+-- it begins nothing of that: it loses its connection, and answers nothing until it comes back from its record
 abbrev pub halted : {K : Type 0} → SimEnd K → SimEnd K
 halted p = record { keys = p.keys; link = state.halts p.link; inbox = [] }
 
 abbrev pub halts : {K : Type 0} → Both K → Both K
 halts p = record { x = halted p.x; y = p.y }
 
--- ---- the node of an end restarts
+-- ---- an end comes back: its node restarts, or it reloads alone
 
 -- it comes back from its record; one whose opening isn't signed by both has none, and loses its connection alone
 abbrev pub back : {K : Type 0} → K → State K → Option ChannelEnd → State K
@@ -146,6 +146,12 @@ unheard signer (act.Send c) p = record p { link = left unchanged (commanded (sig
 -- it comes back from the record that the act has saved; what it handed out reaches nobody
 abbrev pub stops : {K : Type 0} → (K → Signer) → List ℕ → Act → Both K → Both K
 stops signer id a p = record { x = restarted (acts signer id a p).x; y = p.y }
+
+-- ---- it acts, and its save fails, but its store has the record as the act leaves it
+
+-- it halts so; what it was to hand out reaches nobody
+abbrev pub halts_after : {K : Type 0} → (K → Signer) → List ℕ → Act → Both K → Both K
+halts_after signer id a p = record { x = halted (acts signer id a p).x; y = p.y }
 
 -- ---- a connection: both ends have it before either sends, so that nothing is lost
 
@@ -186,6 +192,7 @@ pub data Move : Type 0 where
   Halts : (side : Role) → Move
   Restarts : (side : Role) → Move
   Stops : (side : Role) (act : Act) → Move
+  HaltsAfter : (side : Role) (act : Act) → Move
   Meet : Move
 
 -- told from the funder's end or from the fundee's
@@ -199,6 +206,7 @@ moves signer id (Disconnects side) p = from side disconnects p
 moves signer id (Halts side) p = from side halts p
 moves signer id (Restarts side) p = from side restarts p
 moves signer id (Stops side act) p = from side (stops signer id act) p
+moves signer id (HaltsAfter side act) p = from side (halts_after signer id act) p
 moves signer id Meet p = meet signer p
 
 abbrev pub run : {K : Type 0} → (K → Signer) → List ℕ → List Move → Both K → Both K

@@ -7,9 +7,9 @@ use Rattle.ln_world_channels.specs.declared.step.Step.TheVariants as step
 use Rattle.ln_world_channels.specs.Settings.{channel_id_of}
 use Rattle.ln_world_channels.specs.Both.{Both, Move, moves}
 use Rattle.ln_world_channels.specs.WorldChannel.{WorldChannel, act_moves, disconnect_moves, halt_moves, restart_moves}
-use Rattle.ln_world_channels.specs.WorldChannel.{stop_moves}
+use Rattle.ln_world_channels.specs.WorldChannel.{stop_moves, failed_save_moves}
 use Rattle.ln_world_channels.specs.WorldChannel.{up_moves}
-use Rattle.ln_world_channels.specs.World.{World, happens, may_be_done}
+use Rattle.ln_world_channels.specs.World.{World, happens, may_be_done, may_reload}
 
 -- those of a channel that is there, by the world before the step
 abbrev pub step_moves : {K : Type 0} → (k : Ghosts K) → Step K k → World K → WorldChannel K → List Move
@@ -20,7 +20,11 @@ step_moves k (step.Do e a) w c = if c.number == e.channel then act_moves e.node 
 step_moves k (step.Down e) w c = if c.number == e.channel then disconnect_moves e.node c else []
 step_moves k (step.NoMemory e a) w c =
     if may_be_done e a w.channels then (if c.number == e.channel then halt_moves e.node c else []) else []
+step_moves k (step.SaveFails e a left) w c =
+    if may_be_done e a w.channels then (if c.number == e.channel then failed_save_moves left e.node a c else []) else []
 step_moves k (step.Restart n) w c = restart_moves n c
+step_moves k (step.Reload e) w c =
+    if may_reload e w.channels then (if c.number == e.channel then restart_moves e.node c else []) else []
 step_moves k (step.StopBefore e a) w c = if may_be_done e a w.channels then restart_moves e.node c else []
 step_moves k (step.StopAfter e a) w c = if may_be_done e a w.channels then stop_moves e a c else []
 step_moves k (step.Up n) w c = if c.number == n then up_moves c else []

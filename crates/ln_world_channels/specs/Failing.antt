@@ -1,5 +1,5 @@
 -- By what a step may fail: for want of memory (60), and where an end acts or opens its channel also by an end that has
--- no record as that leaves it, so that it can't be saved (70). A restart finds what was saved.
+-- no record as that leaves it, so that it can't be saved (70). A restart and a reload find what was saved.
 use Rattle.std.specs.Prelude.{◌≡◌, ◌⊎◌, ℕ, List, [], ◌∷◌, Option, Some, None, true}
 use Rattle.ln_refusals.specs.declared.refusal.Refusal.{Refusal}
 use Rattle.ln_refusals.specs.declared.refusal.Refusal.TheVariants as refusal
@@ -14,11 +14,13 @@ use Rattle.ln_world_channels.specs.declared.step.Act.{Act}
 use Rattle.ln_world_channels.specs.declared.step.End.{End}
 use Rattle.ln_world_channels.specs.declared.step.Node.{Node}
 use Rattle.ln_world_channels.specs.declared.step.Open.{Open}
+use Rattle.ln_world_channels.specs.declared.step.RecordLeft.{RecordLeft}
+use Rattle.ln_world_channels.specs.declared.step.RecordLeft.TheVariants as record_left
 use Rattle.ln_world_channels.specs.declared.step.Step.{Step}
 use Rattle.ln_world_channels.specs.declared.step.Step.TheVariants as step
 use Rattle.ln_world_channels.specs.declared.settings.Settings.{Settings}
 use Rattle.ln_world_channels.specs.Settings.{channel_id_of}
-use Rattle.ln_world_channels.specs.Both.{Both, Move, By, Stops, moves, unheard}
+use Rattle.ln_world_channels.specs.Both.{Both, Move, By, Stops, HaltsAfter, moves, unheard}
 use Rattle.ln_world_channels.specs.WorldChannel.{WorldChannel, side_of, place_of, acted_unheard, begun_by}
 use Rattle.ln_world_channels.specs.WorldChannel.{opening_moves}
 use Rattle.ln_world_channels.specs.World.{World, settings_of, channel, may_open, happens}
@@ -36,6 +38,7 @@ LinkLacks l = LacksRecord l.failure (saved_end l.stage)
 abbrev pub MoveLacks : {K : Type 0} → (K → Signer) → Move → Both K → Type 0
 MoveLacks signer (By side a) p = LinkLacks (unheard signer a (place_of side p)).link
 MoveLacks signer (Stops side a) p = LinkLacks (unheard signer a (place_of side p)).link
+MoveLacks signer (HaltsAfter side a) p = LinkLacks (unheard signer a (place_of side p)).link
 MoveLacks signer m p = ⊥
 
 abbrev pub MovesLack : {K : Type 0} → (K → Signer) → List ℕ → List Move → Both K → Type 0
@@ -64,6 +67,11 @@ ActLacksIn signer n a (Some c) = ActLacks signer n a c
 abbrev pub ActLacksAt : {K : Type 0} → (K → Signer) → End → Act → List (WorldChannel K) → Type 0
 ActLacksAt signer e a cs = ActLacksIn signer e.node a (channel e.channel cs)
 
+-- it is to have the record as the act leaves it, after a save that failed
+abbrev pub FailedSaveLacks : {K : Type 0} → (K → Signer) → RecordLeft → End → Act → List (WorldChannel K) → Type 0
+FailedSaveLacks signer record_left.Old e a cs = ⊥
+FailedSaveLacks signer record_left.New e a cs = ActLacksAt signer e a cs
+
 -- ---- in a step, and in a list of steps
 
 abbrev pub ByRecord : Refusal → Type 0 → Type 0
@@ -77,6 +85,7 @@ OpenLacks k o w =
 abbrev pub MayFail : {K : Type 0} → (k : Ghosts K) → Step K k → Refusal → World K → Type 0
 MayFail k (step.Open o) r w = ByRecord r (OpenLacks k o w)
 MayFail k (step.Do e a) r w = ByRecord r (ActLacksAt k.signer e a w.channels)
+MayFail k (step.SaveFails e a left) r w = ByRecord r (FailedSaveLacks k.signer left e a w.channels)
 MayFail k (step.StopAfter e a) r w = ByRecord r (ActLacksAt k.signer e a w.channels)
 MayFail k s r w = r ≡ refusal.Memory
 

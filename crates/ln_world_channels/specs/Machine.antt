@@ -29,7 +29,7 @@ use Rattle.ln_world_channels.specs.declared.step.Act.TheVariants as act
 use Rattle.ln_world_channels.specs.declared.step.Step.{Step}
 use Rattle.ln_world_channels.specs.declared.step.Step.TheVariants as step
 use Rattle.ln_world_channels.specs.Settings.{opening_by}
-use Rattle.ln_world_channels.specs.Both.{Both, SimEnd, Move, By, Disconnects, Halts, Restarts, Stops, Meet}
+use Rattle.ln_world_channels.specs.Both.{Both, SimEnd, Move, By, Disconnects, Halts, Restarts, Stops, HaltsAfter, Meet}
 use Rattle.ln_world_channels.specs.Both.{first_message}
 use Rattle.ln_world_channels.specs.WorldChannel.{WorldChannel, place_of}
 use Rattle.ln_world_channels.specs.World.{World, empty, channel, settings_of, may_open}
@@ -85,11 +85,11 @@ moves_of_act signer side act.Deliver p = moves_delivered signer side p.inbox p.l
 moves_of_act signer side (act.Send c) p =
     moves_of_command side c p.link.stage (commanded (signer p.link.keys) p.link c)
 
--- a lost connection drops what no signature covers; an end that has no memory loses it, and a restart is one
+-- a lost connection drops what no signature covers; an end that halts loses it, and where it comes back that is one
 abbrev pub moves_of_disconnect : Role → ConnectionState → List machine.Move
 moves_of_disconnect side l = if is_down l then [] else Drop side ∷ []
 
--- after an act a stop is one too: no act makes a connection, or ends one
+-- after an act a stop is one too, and so is a failed save: no act makes a connection, or ends one
 abbrev pub moves_of_stop : {K : Type 0} → (K → Signer) → Role → Act → SimEnd K → List machine.Move
 moves_of_stop signer side a p = moves_of_act signer side a p ++ moves_of_disconnect side p.link.connection
 
@@ -99,6 +99,7 @@ moves_of signer (Disconnects side) p = moves_of_disconnect side (place_of side p
 moves_of signer (Halts side) p = moves_of_disconnect side (place_of side p).link.connection
 moves_of signer (Restarts side) p = moves_of_disconnect side (place_of side p).link.connection
 moves_of signer (Stops side a) p = moves_of_stop signer side a (place_of side p)
+moves_of signer (HaltsAfter side a) p = moves_of_stop signer side a (place_of side p)
 moves_of signer Meet p = []
 
 -- ---- all moves of the channel with this number, its opening first
@@ -130,7 +131,8 @@ abbrev pub act_tells : {K : Type 0} → (K → Signer) → Act → SimEnd K → 
 act_tells signer act.Deliver p = delivery_tells signer p.inbox p.link
 act_tells signer (act.Send c) p = outputs_of (commanded (signer p.link.keys) p.link c)
 
--- the end of this side, in a move; what it handed out before its node stopped it has told, though nobody heard it
+-- the end of this side, in a move; where its node stops after an act, or the act's save fails and the store has it all
+-- the same, what the act hands out counts as told, though nobody heard it
 abbrev pub tells : {K : Type 0} → (K → Signer) → Role → Move → Both K → List Output
 tells signer Funder (By Funder a) p = act_tells signer a p.x
 tells signer Funder (By Fundee a) p = []
@@ -139,6 +141,8 @@ tells signer Funder (Halts side) p = []
 tells signer Funder (Restarts side) p = []
 tells signer Funder (Stops Funder a) p = act_tells signer a p.x
 tells signer Funder (Stops Fundee a) p = []
+tells signer Funder (HaltsAfter Funder a) p = act_tells signer a p.x
+tells signer Funder (HaltsAfter Fundee a) p = []
 tells signer Funder Meet p = outputs_of (first_message signer p.x.link)
 tells signer Fundee (By Funder a) p = []
 tells signer Fundee (By Fundee a) p = act_tells signer a p.y
@@ -147,6 +151,8 @@ tells signer Fundee (Halts side) p = []
 tells signer Fundee (Restarts side) p = []
 tells signer Fundee (Stops Funder a) p = []
 tells signer Fundee (Stops Fundee a) p = act_tells signer a p.y
+tells signer Fundee (HaltsAfter Funder a) p = []
+tells signer Fundee (HaltsAfter Fundee a) p = act_tells signer a p.y
 tells signer Fundee Meet p = outputs_of (first_message signer p.y.link)
 
 -- the end of this side of the channel with this number, since it was opened

@@ -1,5 +1,5 @@
--- That each end of a channel has a record, which it comes back from where its node restarts. What the steps' commands
--- bring is as wide as it is in code.
+-- That each end of a channel has a record, which it comes back from where it reloads or its node restarts. What the
+-- steps' commands bring is as wide as it is in code.
 use Rattle.std.specs.Prelude.{List}
 use Rattle.ln_keys.specs.declared.keys.ChannelKeys.{Ghosts}
 use Rattle.ln_log.specs.declared.opening.Limits.{Limits}
@@ -25,7 +25,9 @@ IsStep k (step.Open o) = Unit {0}
 IsStep k (step.Do e a) = IsAct a
 IsStep k (step.Down e) = Unit {0}
 IsStep k (step.NoMemory e a) = Unit {0}
+IsStep k (step.SaveFails e a left) = IsAct a
 IsStep k (step.Restart n) = Unit {0}
+IsStep k (step.Reload e) = Unit {0}
 IsStep k (step.StopBefore e a) = Unit {0}
 IsStep k (step.StopAfter e a) = IsAct a
 IsStep k (step.Up n) = Unit {0}

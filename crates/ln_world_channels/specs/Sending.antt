@@ -12,7 +12,7 @@ use Rattle.ln_channel_laws.specs.Promises.{AddsBefore}
 use Rattle.ln_world_channels.specs.declared.step.Act.{Act}
 use Rattle.ln_world_channels.specs.declared.step.Act.TheVariants as act
 use Rattle.ln_world_channels.specs.declared.step.Step.{Step}
-use Rattle.ln_world_channels.specs.Both.{Both, SimEnd, Move, By, Disconnects, Halts, Restarts, Stops, Meet}
+use Rattle.ln_world_channels.specs.Both.{Both, SimEnd, Move, By, Disconnects, Halts, Restarts, Stops, HaltsAfter, Meet}
 use Rattle.ln_world_channels.specs.Both.{sent_by, greets}
 use Rattle.ln_world_channels.specs.Both.{first_message}
 use Rattle.ln_world_channels.specs.World.{World, channel}
@@ -28,7 +28,8 @@ abbrev pub act_sends : {K : Type 0} → (K → Signer) → List ℕ → Act → 
 act_sends signer id act.Deliver p = delivery_sends signer id p.inbox p.link
 act_sends signer id (act.Send c) p = sent_by id (commanded (signer p.link.keys) p.link c)
 
--- the end of this side; what it handed out before its node stopped it has sent, though nobody gets it
+-- the end of this side; where its node stops after an act, or the act's save fails and the store has it all the same,
+-- what the act hands out counts as sent, though nobody gets it
 abbrev pub sends : {K : Type 0} → (K → Signer) → Role → List ℕ → Move → Both K → List Message
 sends signer Funder id (By Funder a) p = act_sends signer id a p.x
 sends signer Funder id (By Fundee a) p = []
@@ -37,6 +38,8 @@ sends signer Funder id (Halts side) p = []
 sends signer Funder id (Restarts side) p = []
 sends signer Funder id (Stops Funder a) p = act_sends signer id a p.x
 sends signer Funder id (Stops Fundee a) p = []
+sends signer Funder id (HaltsAfter Funder a) p = act_sends signer id a p.x
+sends signer Funder id (HaltsAfter Fundee a) p = []
 sends signer Funder id Meet p = greets (first_message signer p.x.link)
 sends signer Fundee id (By Funder a) p = []
 sends signer Fundee id (By Fundee a) p = act_sends signer id a p.y
@@ -45,6 +48,8 @@ sends signer Fundee id (Halts side) p = []
 sends signer Fundee id (Restarts side) p = []
 sends signer Fundee id (Stops Funder a) p = []
 sends signer Fundee id (Stops Fundee a) p = act_sends signer id a p.y
+sends signer Fundee id (HaltsAfter Funder a) p = []
+sends signer Fundee id (HaltsAfter Fundee a) p = act_sends signer id a p.y
 sends signer Fundee id Meet p = greets (first_message signer p.y.link)
 
 -- ---- over a list of steps

@@ -10,6 +10,7 @@ use Rattle.ln_world_channels.specs.declared.step.Act.{Act}
 use Rattle.ln_world_channels.specs.declared.step.End.{End}
 use Rattle.ln_world_channels.specs.declared.step.Node.{Node}
 use Rattle.ln_world_channels.specs.declared.step.Open.{Open}
+use Rattle.ln_world_channels.specs.declared.step.RecordLeft.{RecordLeft}
 use Rattle.ln_world_channels.specs.declared.step.Step.{Step}
 use Rattle.ln_world_channels.specs.declared.step.Step.TheVariants as step
 use Rattle.ln_world_channels.specs.declared.settings.Settings.{Settings}
@@ -21,7 +22,8 @@ use Rattle.ln_world_channels.specs.Settings.{defaults, may_bring}
 use Rattle.ln_world_channels.specs.Both.{Move}
 use Rattle.ln_world_channels.specs.WorldChannel.{WorldChannel, is_node, moved, opened_by, act_moves, disconnect_moves}
 use Rattle.ln_world_channels.specs.WorldChannel.{restart_moves, up_moves, end_of, side_of, acted_lines, fallen_lines}
-use Rattle.ln_world_channels.specs.WorldChannel.{met_lines, stop_moves, may_act, acted_unheard, halt_moves}
+use Rattle.ln_world_channels.specs.WorldChannel.{met_lines, stop_moves, may_act, acted_unheard, halt_moves, has_halted}
+use Rattle.ln_world_channels.specs.WorldChannel.{failed_save_moves}
 
 pub record World (K : Type 0) : Type 0 where
   pub settings : List Setting  -- a node that isn't among them has the defaults
@@ -116,6 +118,33 @@ abbrev pub memory_lines : {K : Type 0} → End → Act → World K → List Line
 memory_lines e a w =
     if may_be_done e a w.channels then line.Refused e refusal.Memory ∷ [] else line.Idle ∷ []
 
+-- ---- an end whose save fails, and which halts
+
+abbrev pub fails_save : {K : Type 0} → (K → Signer) → End → Act → RecordLeft → World K → World K
+fails_save signer e a left w =
+    if may_be_done e a w.channels then at signer e.channel (failed_save_moves left e.node a) w else w
+
+-- whatever the act comes to
+abbrev pub failed_save_lines : {K : Type 0} → End → Act → World K → List Line
+failed_save_lines e a w =
+    if may_be_done e a w.channels then line.Refused e refusal.Store ∷ [] else line.Idle ∷ []
+
+-- ---- an end that has halted, and comes back from its record alone
+
+abbrev pub has_halted_there : {K : Type 0} → Node → Option (WorldChannel K) → Bool
+has_halted_there n None = false
+has_halted_there n (Some c) = has_halted n c
+
+-- whether the end is there, and has halted
+abbrev pub may_reload : {K : Type 0} → End → List (WorldChannel K) → Bool
+may_reload e cs = has_halted_there e.node (channel e.channel cs)
+
+abbrev pub reloads : {K : Type 0} → (K → Signer) → End → World K → World K
+reloads signer e w = if may_reload e w.channels then at signer e.channel (restart_moves e.node) w else w
+
+abbrev pub reload_lines : {K : Type 0} → End → World K → List Line
+reload_lines e w = if may_reload e w.channels then [] else line.Idle ∷ []
+
 -- ---- a node that stops round an act of one of its ends
 
 -- as the act leaves its end, whoever gets what it hands out
@@ -143,7 +172,9 @@ happens k (step.Open o) w = opens k o w
 happens k (step.Do e a) w = at k.signer e.channel (act_moves e.node a) w
 happens k (step.Down e) w = at k.signer e.channel (disconnect_moves e.node) w
 happens k (step.NoMemory e a) w = lacks_memory k.signer e a w
+happens k (step.SaveFails e a left) w = fails_save k.signer e a left w
 happens k (step.Restart n) w = everywhere k.signer (restart_moves n) w
+happens k (step.Reload e) w = reloads k.signer e w
 happens k (step.StopBefore e a) w = stops_before k.signer e a w
 happens k (step.StopAfter e a) w = stops_after k.signer e a w
 happens k (step.Up n) w = at k.signer n up_moves w
@@ -170,7 +201,9 @@ step_lines k (step.Do e a) w =
     if_there (λ c. acted_lines k.signer a c (side_of e.node c)) (channel e.channel w.channels)
 step_lines k (step.Down e) w = if_there (λ c. fallen_lines (side_of e.node c)) (channel e.channel w.channels)
 step_lines k (step.NoMemory e a) w = memory_lines e a w
+step_lines k (step.SaveFails e a left) w = failed_save_lines e a w
 step_lines k (step.Restart n) w = []
+step_lines k (step.Reload e) w = reload_lines e w
 step_lines k (step.StopBefore e a) w = stop_lines e a w
 step_lines k (step.StopAfter e a) w = stop_lines e a w
 step_lines k (step.Up n) w = if_there (met_lines k.signer) (channel n w.channels)

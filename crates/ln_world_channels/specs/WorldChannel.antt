@@ -14,12 +14,14 @@ use Rattle.ln_world_channels.specs.declared.step.Act.TheVariants as act
 use Rattle.ln_world_channels.specs.declared.step.End.{End}
 use Rattle.ln_world_channels.specs.declared.step.Node.{Node}
 use Rattle.ln_world_channels.specs.declared.step.Open.{Open}
+use Rattle.ln_world_channels.specs.declared.step.RecordLeft.{RecordLeft}
+use Rattle.ln_world_channels.specs.declared.step.RecordLeft.TheVariants as record_left
 use Rattle.ln_world_channels.specs.declared.settings.Settings.{Settings}
 use Rattle.ln_world_channels.specs.declared.line.Line.{Line}
 use Rattle.ln_world_channels.specs.declared.line.Line.TheVariants as line
 use Rattle.ln_world_channels.specs.Settings.{config_of, spec_of, channel_id_of}
-use Rattle.ln_world_channels.specs.Both.{Both, SimEnd, Move, By, Disconnects, Halts, Restarts, Stops, Meet, act_lines}
-use Rattle.ln_world_channels.specs.Both.{may_come_up, first_message_lines, first_message, unheard}
+use Rattle.ln_world_channels.specs.Both.{Both, SimEnd, Move, By, Disconnects, Halts, Restarts, Stops, HaltsAfter, Meet}
+use Rattle.ln_world_channels.specs.Both.{may_come_up, first_message_lines, first_message, unheard, act_lines}
 use Rattle.ln_world_channels.specs.Both.{run as run_both}
 
 pub record WorldChannel (K : Type 0) : Type 0 where
@@ -74,6 +76,14 @@ disconnect_moves n c = by (side_of n c) Disconnects
 abbrev pub halt_moves : {K : Type 0} → Node → WorldChannel K → List Move
 halt_moves n c = by (side_of n c) Halts
 
+-- the save of what it comes to by an act fails
+abbrev pub halt_after_moves : {K : Type 0} → Node → Act → WorldChannel K → List Move
+halt_after_moves n a c = by (side_of n c) (λ side. HaltsAfter side a)
+
+abbrev pub failed_save_moves : {K : Type 0} → RecordLeft → Node → Act → WorldChannel K → List Move
+failed_save_moves record_left.Old n a c = halt_moves n c
+failed_save_moves record_left.New n a c = halt_after_moves n a c
+
 abbrev pub restart_moves : {K : Type 0} → Node → WorldChannel K → List Move
 restart_moves n c = by (side_of n c) Restarts
 
@@ -103,6 +113,18 @@ side_may_do a (Some side) p = may_do a (place_of side p)
 -- the node's end
 abbrev pub may_act : {K : Type 0} → Node → Act → WorldChannel K → Bool
 may_act n a c = side_may_do a (side_of n c) c.both
+
+-- ---- an end that has halted
+
+abbrev pub side_has_halted : {K : Type 0} → Option Role → Both K → Bool
+side_has_halted None p = false
+side_has_halted (Some side) p = (place_of side p).link.halted
+
+-- the node's end
+abbrev pub has_halted : {K : Type 0} → Node → WorldChannel K → Bool
+has_halted n c = side_has_halted (side_of n c) c.both
+
+-- ---- an act that is done, whoever hears of it
 
 -- as the act leaves the node's end, whoever gets what it hands out
 abbrev pub side_unheard : {K : Type 0} → (K → Signer) → Act → Option Role → Both K → Both K

@@ -119,6 +119,13 @@ impl<K: ChannelKeys + Copy> SimEnd<K> {
         self.link().connection().is_down() && !self.link().is_halted()
     }
 
+    /// Whether its link has halted.
+    pub(crate) fn has_halted(&self) -> bool
+        ensures { result ≡ self.now.link.halted }
+    {
+        self.link().is_halted()
+    }
+
     /// Whether it can act so: a message is in flight to it, or it is given a command.
     pub(crate) fn may_do(&self, what: &Act) -> bool
         ensures { result ≡ may_do what.now self.now }
@@ -137,8 +144,8 @@ impl<K: ChannelKeys + Copy> SimEnd<K> {
         self.inbox.clear();
     }
 
-    /// It has no memory for what it was to do: it loses its connection, and what is in flight to it, and answers
-    /// nothing until its node restarts. Takes none.
+    /// It has no memory for what it was to do, or a save of it failed: it loses its connection, and what is in flight
+    /// to it, and answers nothing until it comes back from its record. Takes no memory.
     pub(crate) fn halt(&mut self)
         ensures { self.new ≡ halted self.old }
     {
@@ -146,8 +153,8 @@ impl<K: ChannelKeys + Copy> SimEnd<K> {
         self.inbox.clear();
     }
 
-    /// Its node restarts: it comes back from its record, and what is in flight to it is lost. Takes memory for the
-    /// record and for the end; 60 where there is none.
+    /// Its node restarts, or it reloads alone: it comes back from its record, and what is in flight to it is lost.
+    /// Takes memory for the record and for the end; 60 where there is none.
     pub(crate) fn restart(&mut self, alloc: Global) -> Result<(), Refusal>
         ensures restarted { OnOk result (self.new ≡ restarted self.old) }
         ensures fails_for_memory_alone { IfErr result (λ e. e ≡ Refusal.Memory) }

@@ -51,7 +51,7 @@ impl<K: ChannelKeys + Copy> WorldChannel<K> {
     ghost use Rattle.ln_world_channels.specs.WorldChannel.{restart_moves, fallen_lines, place_of, end_of};
     ghost use Rattle.ln_world_channels.specs.WorldChannel.{opening_moves};
     ghost use Rattle.ln_world_channels.specs.WorldChannel.{met_lines};
-    ghost use Rattle.ln_world_channels.specs.WorldChannel.{may_act, acted_unheard, halt_moves};
+    ghost use Rattle.ln_world_channels.specs.WorldChannel.{may_act, has_halted, acted_unheard, halt_moves};
     ghost use Rattle.ln_channel.specs.Summary.{summary};
     ghost use Rattle.ln_world_channels.specs.World.{lines_of_ends};
     ghost use Rattle.ln_world_channels.specs.Both.{unheard};
@@ -158,6 +158,16 @@ impl<K: ChannelKeys + Copy> WorldChannel<K> {
         match self.side_of(node) {
             None => false,
             Some(side) => self.place(side).may_do(what),
+        }
+    }
+
+    /// Whether the node's end has halted: it has one, and its link has.
+    pub(crate) fn has_halted(&self, node: Node) -> bool
+        ensures { result ≡ has_halted node self.now }
+    {
+        match self.side_of(node) {
+            None => false,
+            Some(side) => self.place(side).has_halted(),
         }
     }
 

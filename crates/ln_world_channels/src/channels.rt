@@ -5,7 +5,7 @@ ghost use Rattle.std.specs.Prelude.{◌≡◌, ◌==◌, position};
 use crate::channel::{WorldChannel, open_channel};
 use crate::line::{EndLine, Line};
 use crate::settings::Settings;
-use crate::step::{Act, End, Node, Open};
+use crate::step::{Act, End, Node, Open, RecordLeft};
 use ln_bytes::Bytes;
 use ln_keys::{ChannelKeys, Role};
 use ln_refusals::Refusal;
@@ -44,10 +44,10 @@ impl<K: ChannelKeys + Copy> Channels<K> {
     ghost use Rattle.ln_world_channels.specs.Settings.{CanBring};
     ghost use Rattle.ln_world_channels.specs.WorldChannel.{side_of, acted_lines, fallen_lines, met_lines, opened_by};
     ghost use Rattle.ln_world_channels.specs.WorldChannel.{act_moves, disconnect_moves, restart_moves, up_moves};
-    ghost use Rattle.ln_world_channels.specs.WorldChannel.{halt_moves, stop_moves};
+    ghost use Rattle.ln_world_channels.specs.WorldChannel.{halt_moves, halt_after_moves, failed_save_moves, stop_moves};
     ghost use Rattle.ln_world_channels.specs.World.{channel, moved_at, all_moved, if_there, lines_of_ends};
-    ghost use Rattle.ln_world_channels.specs.World.{may_be_done, unheard_at};
-    ghost use Rattle.ln_world_channels.specs.Failing.{ByRecord, ActLacksAt, OpeningLacks};
+    ghost use Rattle.ln_world_channels.specs.World.{may_be_done, may_reload, unheard_at};
+    ghost use Rattle.ln_world_channels.specs.Failing.{ByRecord, ActLacksAt, FailedSaveLacks, OpeningLacks};
     ghost use Rattle.ln_world_channels.specs.Stored.{record_there};
 
     /// No channel. Takes no memory.
@@ -147,6 +147,27 @@ impl<K: ChannelKeys + Copy> Channels<K> {
         }
     }
 
+    /// Whether an end has halted.
+    pub(crate) fn has_halted(&self, end: End) -> bool
+        ensures { result ≡ may_reload end self.now }
+    {
+        match place_of(&self.items, end.channel) {
+            None => false,
+            Some(i) => self.items[i].has_halted(end.node),
+        }
+    }
+
+    /// An end comes back from its record, where its channel is there. 60 where there is no memory.
+    pub(crate) fn reload(&mut self, alloc: Global, end: End) -> Result<(), Refusal>
+        ensures moved { OnOk result (self.new ≡ moved_at K.signer end.channel (restart_moves end.node) self.old) }
+        ensures fails_for_memory_alone { IfErr result (λ e. e ≡ Refusal.Memory) }
+    {
+        let Some(i) = place_of(&self.items, end.channel) else {
+            return Ok(());
+        };
+        self.items[i].restart(alloc, end.node)
+    }
+
     /// Each end of a node comes back from its record. 60 where there is no memory.
     pub(crate) fn restart(&mut self, alloc: Global, node: Node) -> Result<(), Refusal>
         ensures moved { OnOk result (self.new ≡ all_moved K.signer (restart_moves node) self.old) }
@@ -180,6 +201,41 @@ impl<K: ChannelKeys + Copy> Channels<K> {
                 Ok(())
             }
             Some(i) => self.items[i].act_unheard(alloc, end.node, what),
+        }
+    }
+
+    /// An end acts, and then it halts: what the act hands out is lost. 60 where there is no memory, 70 where the end
+    /// has no record after the act.
+    fn halt_after(&mut self, alloc: Global, end: End, what: Act) -> Result<(), Refusal>
+        ensures moved { OnOk result (self.new
+            ≡ moved_at K.signer end.channel (halt_after_moves end.node what) self.old) }
+        ensures fails { IfErr result (λ e. ByRecord e (ActLacksAt K.signer end what self.old)) }
+    {
+        self.act_unheard(alloc, end, what)?;
+        self.halt(end);
+        Ok(())
+    }
+
+    /// The save of what an end comes to by an act fails, and it halts, with this record in its store. 60 where there is
+    /// no memory, 70 where the store is to have the record as the act leaves it, and there is none.
+    pub(crate) fn fail_save(
+        &mut self,
+        alloc: Global,
+        end: End,
+        what: Act,
+        left: RecordLeft,
+    ) -> Result<(), Refusal>
+        ensures moved { OnOk result (self.new
+            ≡ moved_at K.signer end.channel (failed_save_moves left end.node what) self.old) }
+        ensures fails { IfErr result (λ e. ByRecord e (FailedSaveLacks K.signer left end what self.old)) }
+    {
+        match left {
+            RecordLeft::Old => {
+                drop(what);
+                self.halt(end);
+                Ok(())
+            }
+            RecordLeft::New => self.halt_after(alloc, end, what),
         }
     }
 

@@ -1,7 +1,7 @@
 //! What nodes and channels promise over every list of steps: what is set, channels that are opened, messages that are
 //! delivered one at a time, commands that are given, connections that are lost, at each end by itself, and come back,
-//! and nodes that restart from their records (BOLT 2). Told of each channel's two links as the code leaves them,
-//! whatever their keys are that are partners.
+//! saves that fail, ends that halt and reload, and nodes that restart from their records (BOLT 2). Told of each
+//! channel's two links as the code leaves them, whatever their keys are that are partners.
 
 ghost use Rattle.std.specs.Prelude.{ℕ, List};
 ghost use Rattle.ln_refusals.specs.declared.refusal.Refusal.TheVariants as refusal;
@@ -83,7 +83,8 @@ pub fn commands_are_done_exactly<K: ChannelKeys + Copy>()
 {}
 
 /// A law: of all that either end of the channel with this number sends in these steps since it was opened, over all its
-/// connections and over restarts of its nodes, no `update_add_htlc` stands after a `shutdown`.
+/// connections and over reloads and restarts of its nodes, no `update_add_htlc` stands after a `shutdown`. What an act
+/// hands out counts, though its node stops then, or its save fails and its store has it all the same.
 pub fn no_add_follows_a_shutdown<K: ChannelKeys + Copy>()
     ensures { (steps : List (Step K K.ChannelKeys)) (number : ℕ) → NoneAddsLate K.ChannelKeys number steps empty }
 {}

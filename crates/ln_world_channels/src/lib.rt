@@ -29,5 +29,5 @@ pub use machine::{
     undecided_events_are_the_machines,
 };
 pub use settings::{Setting, Settings, channel_id_of, may_bring};
-pub use step::{Act, End, Node, Open, Partners, Step};
+pub use step::{Act, End, Node, Open, Partners, RecordLeft, Step};
 pub use world::World;

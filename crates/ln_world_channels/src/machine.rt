@@ -16,7 +16,8 @@ use ln_keys::ChannelKeys;
 /// number there is no machine, and no step is a move. Of commands that aren't refused, an update is proposed, a
 /// signature or a shutdown sent. A `commitment_signed` that is taken is accepted, a `revoke_and_ack` learned from; a
 /// close, and a shutdown that an end owes and sends in its turn, are the move of that turn. A lost connection drops
-/// what no signature covers, and so does a restart of an end that has a connection. All else is no move.
+/// what no signature covers, and so do an end that halts and a restart, where they have one. An act whose save fails is
+/// its moves where the store has the record as the act leaves it, and none of them else. All else is no move.
 pub fn moves_are_the_machines<K: ChannelKeys + Copy>()
     ensures { (steps : List (Step K K.ChannelKeys)) (number : ℕ)
         → MovesLead K.ChannelKeys number steps (run K.ChannelKeys steps empty) }
@@ -29,7 +30,8 @@ pub fn each_move_may_be_made<K: ChannelKeys + Copy>()
 {}
 
 /// A law: the events among all that an end of the channel with this number hands out in these steps, with their
-/// numbers, are those of the moves for its side: each once, in their order, numbered from 0.
+/// numbers, are those of the moves for its side: each once, in their order, numbered from 0. What an act hands out
+/// counts, though its node stops then, or its save fails and its store has it all the same.
 pub fn events_are_reported<K: ChannelKeys + Copy>()
     ensures { (steps : List (Step K K.ChannelKeys)) (number : ℕ) (side : Role)
         → EventsAreTold K.ChannelKeys number side steps }
@@ -37,7 +39,7 @@ pub fn events_are_reported<K: ChannelKeys + Copy>()
 
 /// A law: the events that an end of the channel with this number has yet to decide are those of the moves for its side,
 /// each once and in their order, from the count of those that it has decided on, and none is missing, over all its
-/// connections and over restarts of its nodes. Each is read from the update that its entry in the ledger names, as the
+/// connections, reloads and restarts. Each is read from the update that its entry in the ledger names, as the
 /// end has it now, or from the fee at which it closed.
 pub fn undecided_events_are_the_machines<K: ChannelKeys + Copy>()
     ensures { (steps : List (Step K K.ChannelKeys)) (number : ℕ) (side : Role)

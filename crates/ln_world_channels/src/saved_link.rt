@@ -218,8 +218,9 @@ impl<K: ChannelKeys + Copy> SavedLink<K> {
         }
     }
 
-    /// Its node restarts: it comes back from what its store has of it, and of the updates that this hasn't one by one
-    /// any more they stay what they were (`Link::take_past_of`); where that is nothing, it loses its connection alone.
+    /// It comes back from what its store has of it, as its node restarts or it reloads alone, and of the updates that
+    /// the store hasn't one by one any more they stay what they were (`Link::take_past_of`); where that is nothing, it
+    /// loses its connection alone.
     /// Takes memory for the record and for the end; 60 where there is none, and nothing has changed.
     pub(crate) fn restart(&mut self, alloc: Global, keys: K) -> Result<(), Refusal>
         ensures back { OnOk result (self.new ≡ back keys self.old (saved_end self.old.stage)) }

@@ -59,6 +59,15 @@ pub enum Act {
     Send(Command),
 }
 
+/// Which record a store has of an end after a save that failed.
+#[derive(Clone, Copy, PartialEq, Eq)]
+pub enum RecordLeft {
+    /// That of the end as it was before its act.
+    Old,
+    /// That of the end as its act leaves it.
+    New,
+}
+
 /// What may happen in a world of nodes and channels.
 #[derive(Drop)]
 pub enum Step<K: ChannelKeys + Copy> {
@@ -73,11 +82,17 @@ pub enum Step<K: ChannelKeys + Copy> {
     /// An end loses its connection, and what is in flight to it.
     Down(End),
     /// A channel's end has no memory for what it is to do, where it can act so: nothing of that is begun, the end loses
-    /// its connection, and what is in flight to it, and answers nothing until its node restarts.
+    /// its connection, and what is in flight to it, and answers nothing until it reloads or its node restarts.
     NoMemory(End, Act),
+    /// The save of what a channel's end comes to by an act fails, where it can act so: nothing is handed out, and the
+    /// end halts as where it has no memory. Its store has the record that is named.
+    SaveFails(End, Act, RecordLeft),
     /// A node restarts: each of its ends comes back from its record, without a connection, and what is in flight to it
     /// is lost.
     Restart(Node),
+    /// An end that has halted comes back from its record while its node goes on, without a connection, and what is in
+    /// flight to it is lost.
+    Reload(End),
     /// A node stops before an end of it acts, where that can act: the act isn't begun, and the node restarts.
     StopBefore(End, Act),
     /// A node stops as an end of it has acted and saved, where that can act: what the act hands out is lost, and the

@@ -6,7 +6,7 @@ use crate::channel::WorldChannel;
 use crate::channels::Channels;
 use crate::line::{EndLine, Line};
 use crate::settings::{Setting, Settings, may_bring, set_for, settings_of};
-use crate::step::{Act, End, Node, Open, Step};
+use crate::step::{Act, End, Node, Open, RecordLeft, Step};
 use ln_bytes::Bytes;
 use ln_close::Fees;
 use ln_keys::ChannelKeys;
@@ -136,6 +136,45 @@ impl<K: ChannelKeys + Copy> World<K> {
         Ok(())
     }
 
+    /// The save of what the end comes to by the act fails, where it can act so, and it halts. 60 where there is no
+    /// memory, 70 where its store is to have the record as the act leaves it, and there is none.
+    fn fail_save(
+        &mut self,
+        alloc: Global,
+        end: End,
+        what: Act,
+        left: RecordLeft,
+        lines: &mut Vec<Line>,
+    ) -> Result<(), Refusal>
+        ensures world { OnOk result (self.new ≡ happens K.ChannelKeys (step.SaveFails end what left) self.old) }
+        ensures told { OnOk result (lines.new.items
+            ≡ lines.old.items ++ step_lines K.ChannelKeys (step.SaveFails end what left) self.old) }
+        ensures fails { IfErr result (λ e. MayFail K.ChannelKeys (step.SaveFails end what left) e self.old) }
+    {
+        if !self.channels.may_act(end, &what) {
+            drop(what);
+            lines.push(Line::Idle)?;
+            return Ok(());
+        }
+        self.channels.fail_save(alloc, end, what, left)?;
+        lines.push(Line::Refused(end, Refusal::Store))?;
+        Ok(())
+    }
+
+    /// The end comes back from its record, where it has halted. 60 where there is no memory.
+    fn reload(&mut self, alloc: Global, end: End, lines: &mut Vec<Line>) -> Result<(), Refusal>
+        ensures world { OnOk result (self.new ≡ happens K.ChannelKeys (step.Reload end) self.old) }
+        ensures told { OnOk result (lines.new.items
+            ≡ lines.old.items ++ step_lines K.ChannelKeys (step.Reload end) self.old) }
+        ensures fails_for_memory_alone { IfErr result (λ e. e ≡ Refusal.Memory) }
+    {
+        if !self.channels.has_halted(end) {
+            lines.push(Line::Idle)?;
+            return Ok(());
+        }
+        self.channels.reload(alloc, end)
+    }
+
     /// The end's node stops before that acts, where it can act. 60 where there is no memory.
     fn stop_before(
         &mut self,
@@ -201,11 +240,13 @@ impl<K: ChannelKeys + Copy> World<K> {
     /// Establishment v1") where no other has its number, its ends are at two nodes, and `may_bring` takes what both
     /// bring; an end acts or loses its connection where its channel is there and the node has an end of it, and takes a
     /// message where one is in flight to it; both ends of a channel get a connection where both are down and neither
-    /// has halted. Else nothing changes, and `Line::Idle` is told. Where a node restarts, each of its ends is loaded
-    /// from its record and comes back so; nothing is told of that, nor where the node has no end. Where it stops
-    /// before or after an act of one of its ends, which has to be one that can act, `Line::Restarts` is told, and
-    /// nothing of the act. Where an end has no memory for an act, which has to be one that it can do, 60 is told of it
-    /// and nothing else, whatever the act would have come to.
+    /// has halted; an end reloads where it has halted. Else nothing changes, and `Line::Idle` is told. Where a node
+    /// restarts, each of its ends is loaded from its record and comes back so; nothing is told of that, nor where the
+    /// node has no end, nor of an end that reloads. Where a node stops before or after an act of one of its ends, which
+    /// has to be one that can act, `Line::Restarts` is told, and nothing of the act. Where an end has no memory for an
+    /// act, which has to be one that it can do, 60 is told of it and nothing else, whatever the act would have come to.
+    /// Where the act's save fails, 61 is told of it and nothing else: the end has halted as it was before the act, or
+    /// as the act leaves it, by the record that its store has.
     ///
     /// Errors: 60 where there is no memory; 70 where an end has no record as an act or the opening leaves it, which is
     /// never so of steps that are as wide as in code (`every_end_has_a_record`). After an error that end has halted,
@@ -227,7 +268,9 @@ impl<K: ChannelKeys + Copy> World<K> {
             Step::Do(end, what) => self.channels.act(alloc, end, what, lines),
             Step::Down(end) => self.channels.disconnect(end, lines),
             Step::NoMemory(end, what) => self.lack_memory(end, what, lines),
+            Step::SaveFails(end, what, left) => self.fail_save(alloc, end, what, left, lines),
             Step::Restart(node) => self.channels.restart(alloc, node),
+            Step::Reload(end) => self.reload(alloc, end, lines),
             Step::StopBefore(end, what) => self.stop_before(alloc, end, what, lines),
             Step::StopAfter(end, what) => self.stop_after(alloc, end, what, lines),
             Step::Up(number) => self.channels.come_up(alloc, number, lines),
