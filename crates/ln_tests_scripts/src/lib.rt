@@ -8,6 +8,8 @@ pub use frames::ping_frame;
 #[cfg(test)]
 mod commands;
 #[cfg(test)]
+mod failing_saves;
+#[cfg(test)]
 mod hooks;
 #[cfg(test)]
 mod records;
