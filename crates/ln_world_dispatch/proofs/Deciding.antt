@@ -60,7 +60,8 @@ use Rattle.ln_channel.specs.Step.{signed_at, opening_at, turned, awaiting_at, st
 use Rattle.ln_channel.specs.Step.{message_fault, obeyed, noted, connects, asked, line_fault}
 use Rattle.ln_world_channels.specs.declared.step.Act.{Act}
 use Rattle.ln_world_channels.specs.declared.step.Act.TheVariants as act
-use Rattle.ln_world_channels.specs.Both.{SimEnd, Both, Move, By, Disconnects, Halts, Restarts, Stops, Meet, moves, left}
+use Rattle.ln_world_channels.specs.Both.{SimEnd, Both, Move, By, Disconnects, Halts, Restarts, Stops, HaltsAfter, Meet}
+use Rattle.ln_world_channels.specs.Both.{moves, left}
 use Rattle.ln_world_channels.specs.Both.{unchanged}
 use Rattle.ln_world_channels.specs.Both.{back}
 use Rattle.ln_world_channels.specs.Both.{acts, delivers, restarted, swapped}
@@ -596,6 +597,8 @@ KeptByMove P Q (Halts side) = Unit {0}
 KeptByMove P Q (Restarts side) = Unit {0}
 KeptByMove P Q (Stops Funder a) = KeptBy P a
 KeptByMove P Q (Stops Fundee a) = KeptBy Q a
+KeptByMove P Q (HaltsAfter Funder a) = KeptBy P a
+KeptByMove P Q (HaltsAfter Fundee a) = KeptBy Q a
 KeptByMove P Q Meet = Unit {0}
 
 module _ {K : Type 0} where
@@ -669,6 +672,13 @@ module _ {K : Type 0} where
   moves_so P Q signer id (Stops Fundee a) p i h = (
     h.0,
     restarted_so Q (acts signer id a (swapped p)).x
+        (acts_so Q P signer id a (swapped p) i (turned_round P Q p h)).0,
+  )
+  moves_so P Q signer id (HaltsAfter Funder a) p i h =
+      (drops_so P (acts signer id a p).x.link (acts_so P Q signer id a p i h).0, h.1)
+  moves_so P Q signer id (HaltsAfter Fundee a) p i h = (
+    h.0,
+    drops_so Q (acts signer id a (swapped p)).x.link
         (acts_so Q P signer id a (swapped p) i (turned_round P Q p h)).0,
   )
   moves_so P Q signer id Meet p i h = (

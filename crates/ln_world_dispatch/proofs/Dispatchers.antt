@@ -321,6 +321,8 @@ module _ {K : Type 0} (k : Ghosts K) where
   step_so done v (step.Do e a) w new is none h = h
   step_so done v (step.Down e) w new is none h = h
   step_so done v (step.NoMemory e a) w new is none h = h
+  step_so done v (step.SaveFails e a left) w new is none h = h
+  step_so done v (step.Reload e) w new is none h = h
   step_so done v (step.Restart n) w new is none h = restarts_so done n new w.dispatchers none h
   step_so done v (step.StopBefore e a) w new is none h =
       restarts_by (may_act e a w) done e.node new w.dispatchers none h

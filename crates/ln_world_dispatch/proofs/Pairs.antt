@@ -21,18 +21,20 @@ use Rattle.ln_world_channels.specs.declared.step.Act.TheVariants as act
 use Rattle.ln_world_channels.specs.declared.step.End.{End}
 use Rattle.ln_world_channels.specs.declared.step.Node.{Node}
 use Rattle.ln_world_channels.specs.declared.step.Open.{Open}
+use Rattle.ln_world_channels.specs.declared.step.RecordLeft.{RecordLeft}
+use Rattle.ln_world_channels.specs.declared.step.RecordLeft.TheVariants as record_left
 use Rattle.ln_world_channels.specs.declared.step.Step.{Step as ChannelStep}
 use Rattle.ln_world_channels.specs.declared.step.Step.TheVariants as channel_step
 use Rattle.ln_world_channels.specs.Settings.{channel_id_of, may_bring}
-use Rattle.ln_world_channels.specs.Both.{Move, By, Disconnects, Halts, Restarts, Stops, Meet}
+use Rattle.ln_world_channels.specs.Both.{Move, By, Disconnects, Halts, Restarts, Stops, HaltsAfter, Meet}
 use Rattle.ln_world_channels.specs.WorldChannel.{WorldChannel, is_node, by, side_of, end_at, moved, act_moves}
-use Rattle.ln_world_channels.specs.WorldChannel.{disconnect_moves}
+use Rattle.ln_world_channels.specs.WorldChannel.{disconnect_moves, failed_save_moves}
 use Rattle.ln_world_channels.specs.WorldChannel.{halt_moves, restart_moves, stop_moves, up_moves, may_meet}
 use Rattle.ln_world_channels.specs.WorldChannel.{opening_moves}
 use Rattle.ln_world_channels.specs.WorldChannel.{begun_by, opened_by}
 use Rattle.ln_world_channels.specs.Promises.{Each}
 use Rattle.ln_world_channels.specs.World.{World as Channels, channel, AreOnce, moved_if, moved_at, all_moved, may_open}
-use Rattle.ln_world_channels.specs.World.{may_be_done, settings_of, joined, at, everywhere}
+use Rattle.ln_world_channels.specs.World.{may_be_done, may_reload, settings_of, joined, at, everywhere}
 use Rattle.ln_world_channels.specs.World as channels
 use Rattle.ln_world_channels.proofs.Places.{once-push}
 use Rattle.ln_world_dispatch.specs.declared.step.Step.{Step}
@@ -180,6 +182,11 @@ stops_by : (side : Role) (a : Act) (x y : Dispatcher) → KeptBy (Between (dispa
     → KeptByMove (Between x) (Between y) (Stops side a)
 stops_by Funder a x y h = h
 stops_by Fundee a x y h = h
+
+halts_by : (side : Role) (a : Act) (x y : Dispatcher) → KeptBy (Between (dispatcher_of side x y)) a
+    → KeptByMove (Between x) (Between y) (HaltsAfter side a)
+halts_by Funder a x y h = h
+halts_by Fundee a x y h = h
 
 -- ---- channels, each with two dispatchers
 
@@ -466,6 +473,15 @@ module _ {K : Type 0} where
       (λ c x y f n. moves_by (Between x) (Between y) (side_of e.node c) (λ side. By side a)
       (λ side is. acts_by side a x y (f n side is))) cs ds (may_decide e a cs ds may h)
 
+  fails_save : (left : RecordLeft) (e : End) (a : Act) (cs : List (WorldChannel K)) (ds : List Dispatcher)
+      → Allowed a (dispatcher_at e ds)
+      → Aligned cs ds → EachPair (FitsAt e.channel (failed_save_moves left e.node a)) cs ds
+  fails_save record_left.Old e a cs ds may h = each_at e.channel (halt_moves e.node) (halts e.node) cs ds h.pairs
+  fails_save record_left.New e a cs ds may h =
+      pairs-to (MayDecide e a) (FitsAt e.channel (failed_save_moves record_left.New e.node a))
+      (λ c x y f n. moves_by (Between x) (Between y) (side_of e.node c) (λ side. HaltsAfter side a)
+      (λ side is. halts_by side a x y (f n side is))) cs ds (may_decide e a cs ds may h)
+
   stops : (e : End) (a : Act) (cs : List (WorldChannel K)) (ds : List Dispatcher) → Allowed a (dispatcher_at e ds)
       → Aligned cs ds → EachPair (Fits (stop_moves e a)) cs ds
   stops e a cs ds may h =
@@ -683,6 +699,18 @@ module _ {K : Type 0} (k : Ghosts K) where
       (halt_moves e.node) w.channels) w.channels w.dispatchers
       (moves_at k.signer e.channel (halt_moves e.node) cs w.dispatchers
       (each_at e.channel (halt_moves e.node) (halts e.node) cs w.dispatchers h.pairs) h) h) h
+  channels_move (step.SaveFails e a left) w h =
+      let cs = w.channels.channels in
+      taken_by (is_dispatched e a w) (channel_step.SaveFails e a left) w.channels w.dispatchers
+      (λ is. done_by (may_be_done e a cs) (at k.signer e.channel
+      (failed_save_moves left e.node a) w.channels) w.channels w.dispatchers
+      (moves_at k.signer e.channel (failed_save_moves left e.node a) cs w.dispatchers
+      (fails_save left e a cs w.dispatchers (allowed_so e a w is) h) h) h) h
+  channels_move (step.Reload e) w h =
+      let cs = w.channels.channels in
+      done_by (may_reload e cs) (at k.signer e.channel (restart_moves e.node) w.channels) w.channels w.dispatchers
+      (moves_at k.signer e.channel (restart_moves e.node) cs w.dispatchers
+      (each_at e.channel (restart_moves e.node) (comes_back e.node) cs w.dispatchers h.pairs) h) h
   channels_move (step.Restart n) w h =
       let cs = w.channels.channels in
       moves_all k.signer (restart_moves n) cs w.dispatchers
@@ -734,6 +762,8 @@ module _ {K : Type 0} (k : Ghosts K) where
   step_aligned v (step.Do e a) w h = channels_move (step.Do e a) w h
   step_aligned v (step.Down e) w h = channels_move (step.Down e) w h
   step_aligned v (step.NoMemory e a) w h = channels_move (step.NoMemory e a) w h
+  step_aligned v (step.SaveFails e a left) w h = channels_move (step.SaveFails e a left) w h
+  step_aligned v (step.Reload e) w h = channels_move (step.Reload e) w h
   step_aligned v (step.Restart n) w h =
       let new = moved_by k (plain k (step.Restart n) w) w.channels in
       all_anew n new w.dispatchers (channels_move (step.Restart n) w h)

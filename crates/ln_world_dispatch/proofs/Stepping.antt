@@ -126,6 +126,10 @@ module _ {K : Type 0} (k : Ghosts K) {H : Type 0} (calls : H → ChannelEvent �
   quiet (step.Down e) w ts left q = λ handed a count stand. stays calls handed a w.used w.dispatchers ts left stand
   quiet (step.NoMemory e what) w ts left q =
       λ handed a count stand. stays calls handed a w.used w.dispatchers ts left stand
+  quiet (step.SaveFails e what stored) w ts left q =
+      λ handed a count stand. stays calls handed a w.used w.dispatchers ts left stand
+  quiet (step.Reload e) w ts left q =
+      λ handed a count stand. stays calls handed a w.used w.dispatchers ts left stand
   quiet (step.Up n) w ts left q = λ handed a count stand. stays calls handed a w.used w.dispatchers ts left stand
   quiet (step.Open o) w ts left q = absurd (cc)
   quiet (step.Restart n) w ts left q = absurd (cc)

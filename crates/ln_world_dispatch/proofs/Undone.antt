@@ -15,14 +15,14 @@ use Rattle.ln_world_channels.specs.declared.step.End.{End}
 use Rattle.ln_world_channels.specs.declared.step.Step.{Step as ChannelStep}
 use Rattle.ln_world_channels.specs.declared.step.Step.TheVariants as channel_step
 use Rattle.ln_world_channels.specs.Settings.{channel_id_of}
-use Rattle.ln_world_channels.specs.Both.{Both, Move, By, Disconnects, Halts, Restarts, Stops, Meet}
+use Rattle.ln_world_channels.specs.Both.{Both, Move, By, Disconnects, Halts, Restarts, Stops, HaltsAfter, Meet}
 use Rattle.ln_world_channels.specs.Both as both
 use Rattle.ln_world_channels.specs.WorldChannel.{WorldChannel, moved, act_moves, disconnect_moves, halt_moves}
-use Rattle.ln_world_channels.specs.WorldChannel.{restart_moves}
+use Rattle.ln_world_channels.specs.WorldChannel.{restart_moves, failed_save_moves}
 use Rattle.ln_world_channels.specs.WorldChannel.{stop_moves, up_moves, opened_by}
 use Rattle.ln_world_channels.specs.Promises.{Each}
 use Rattle.ln_world_channels.specs.World.{World as Channels, channel, moved_if, may_open, may_be_done, settings_of}
-use Rattle.ln_world_channels.specs.World.{joined, at, everywhere}
+use Rattle.ln_world_channels.specs.World.{joined, at, everywhere, may_reload}
 use Rattle.ln_world_channels.specs.World as channels
 use Rattle.ln_world_dispatch.specs.World.{saved_in, decided_of}
 use Rattle.ln_world_dispatch.specs.Kept.{KeptDispatcher, decided_at, Keeps, AllKeep}
@@ -64,6 +64,8 @@ move_so m n (Halts side) = tt
 move_so m n (Restarts side) = tt
 move_so m n (Stops Funder a) = act_so m a
 move_so m n (Stops Fundee a) = act_so n a
+move_so m n (HaltsAfter Funder a) = act_so m a
+move_so m n (HaltsAfter Fundee a) = act_so n a
 move_so m n Meet = tt
 
 moves_so : (m n : ℕ) (xs : List Move) → Each (KeptByMove (λ i. m ≤ i) (λ i. n ≤ i)) xs
@@ -159,6 +161,12 @@ module _ {K : Type 0} (k : Ghosts K) where
   never_undone (channel_step.NoMemory x a) w e side =
       either_so (may_be_done x a w.channels) (at k.signer x.channel (halt_moves x.node) w) w e side
       (at_so k.signer x.channel (halt_moves x.node) w e side)
+  never_undone (channel_step.SaveFails x a left) w e side =
+      either_so (may_be_done x a w.channels) (at k.signer x.channel (failed_save_moves left x.node a) w) w e side
+      (at_so k.signer x.channel (failed_save_moves left x.node a) w e side)
+  never_undone (channel_step.Reload x) w e side =
+      either_so (may_reload x w.channels) (at k.signer x.channel (restart_moves x.node) w) w e side
+      (at_so k.signer x.channel (restart_moves x.node) w e side)
   never_undone (channel_step.Restart n) w e side = everywhere_so k.signer (restart_moves n) w e side
   never_undone (channel_step.StopBefore x a) w e side =
       either_so (may_be_done x a w.channels) (everywhere k.signer (restart_moves x.node) w) w e side

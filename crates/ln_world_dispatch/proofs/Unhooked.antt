@@ -86,7 +86,9 @@ module _ {K : Type 0} (k : Ghosts K) where
   none_said a (step.Do e what) w h = refl
   none_said a (step.Down e) w h = refl
   none_said a (step.NoMemory e what) w h = refl
+  none_said a (step.SaveFails e what left) w h = refl
   none_said a (step.Restart n) w h = refl
+  none_said a (step.Reload e) w h = refl
   none_said a (step.StopBefore e what) w h = refl
   none_said a (step.StopAfter e what) w h = refl
   none_said a (step.Up n) w h = refl
@@ -112,6 +114,8 @@ module _ {K : Type 0} (k : Ghosts K) where
   bare_so (step.Do e what) w z h = h
   bare_so (step.Down e) w z h = h
   bare_so (step.NoMemory e what) w z h = h
+  bare_so (step.SaveFails e what left) w z h = h
+  bare_so (step.Reload e) w z h = h
   bare_so (step.Restart n) w z h = bare_again n (moved_by k (plain k (step.Restart n) w) w.channels) w.dispatchers h
   bare_so (step.StopBefore e what) w z h =
       let new = moved_by k (plain k (step.StopBefore e what) w) w.channels in

@@ -92,10 +92,11 @@ pub fn every_end_has_a_record<K: ChannelKeys + Copy>()
         → SomeMayFail K.ChannelKeys steps refusal.Damaged (empty hooks) → ⊥ }
 {}
 
-/// A law: of each dispatcher, over all that was decided and over restarts of its node. Its end has decided what was
-/// decided as the dispatcher's epoch began, and no event that the epoch hasn't dispatched, so that each decision is of
-/// an event that the hooks have seen. The events that were served in an epoch are, each once and in order, the end's
-/// committed events from the epoch's start on, and each hook has its slot from one of these, or the next, on.
+/// A law: of each dispatcher, over all that was decided, reloads of its end and restarts of its node. Its end has
+/// decided what was decided as the dispatcher's epoch began, and no event that the epoch hasn't dispatched, so that
+/// each decision is of an event that the hooks have seen. The events that were served in an epoch are, each once and in
+/// order, the end's committed events from the epoch's start on, and each hook has its slot from one of these, or the
+/// next, on.
 pub fn decisions_follow_dispatches<K: ChannelKeys + Copy>()
     ensures { (steps : List (Step K K.ChannelKeys × Verdict)) (hooks : ℕ) → DispatchersStand K.ChannelKeys hooks steps }
 {}

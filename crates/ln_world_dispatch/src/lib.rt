@@ -24,7 +24,9 @@ pub use laws::{
     readiness_agrees_at_rest, signatures_are_over_what_is_covered,
 };
 pub use ln_hooks::Serve;
-pub use ln_world_channels::{Act, Choice, End, EndLine, Ending, Line, Node, Open, Partners, Word};
+pub use ln_world_channels::{
+    Act, Choice, End, EndLine, Ending, Line, Node, Open, Partners, RecordLeft, Word,
+};
 pub use machine::{
     close_is_last, each_move_may_be_made, events_are_reported, moves_are_the_machines,
     undecided_events_are_the_machines,

@@ -20,7 +20,7 @@ use ln_hooks::{ChannelEvent, Verdict};
 use ln_keys::{ChannelKeys, Role};
 use ln_refusals::Refusal;
 use ln_world_channels::{
-    Act, End, EndLine, Line, Node, Open, Step as ChannelStep, World as Channels,
+    Act, End, EndLine, Line, Node, Open, RecordLeft, Step as ChannelStep, World as Channels,
 };
 use std::alloc::Global;
 use std::marker::Model;
@@ -580,6 +580,30 @@ impl<K: ChannelKeys + Copy> Nodes<K> {
         self.pass(alloc, ChannelStep::NoMemory(end, what), lines)
     }
 
+    // The save of what an end comes to by an act fails, where it can act so; where its store has the record all the
+    // same, its dispatcher lets go of the event that it has decided, if it has.
+    fn fail_save(
+        &mut self,
+        alloc: Global,
+        end: End,
+        what: Act,
+        left: RecordLeft,
+        lines: &mut Vec<Line>,
+    ) -> Result<(), Refusal>
+        ensures world { OnOk result (self.new
+            ≡ happens K.ChannelKeys Continue (step.SaveFails end what left) self.old) }
+        ensures told { OnOk result (lines.new.items
+            ≡ lines.old.items ++ step_lines K.ChannelKeys Continue (step.SaveFails end what left) self.old) }
+        ensures fails { IfErr result (λ e. MayFail K.ChannelKeys (step.SaveFails end what left) e self.old) }
+    {
+        if !self.is_dispatched(end, &what) {
+            return idle(what, lines);
+        }
+        self.pass(alloc, ChannelStep::SaveFails(end, what, left), lines)?;
+        self.let_go(alloc, end);
+        Ok(())
+    }
+
     // A channel is opened, where it may be, and its ends get dispatchers.
     fn open(&mut self, alloc: Global, wish: Open<K>, lines: &mut Vec<Line>) -> Result<(), Refusal>
         ensures world { OnOk result (self.new ≡ happens K.ChannelKeys Continue (step.Open wish) self.old) }
@@ -664,8 +688,9 @@ impl<K: ChannelKeys + Copy> Nodes<K> {
     /// end's dispatcher has dispatched. Where a channel opens, each of its ends gets a dispatcher, which begins at its
     /// first event. A dispatcher serves its next event where its end holds that by now; it reads the event from what
     /// the end hasn't decided, by its number. A hook gets a slot with the dispatcher of an end that is there, where it
-    /// was handed in and has none yet: it serves from the next event on. Where a node restarts or stops, its
-    /// dispatchers give up their hooks, and begin at the first event that isn't decided. What can't be done changes
+    /// was handed in and has none yet: it serves from the next event on. Where an end halts or reloads, its dispatcher
+    /// goes on. Where a node restarts or stops, its dispatchers give up their hooks, and begin at the first event that
+    /// isn't decided. What can't be done changes
     /// nothing, and `Line::Idle` is told.
     ///
     /// Errors: 60 where there is no memory; 70 where an end has no record as an act or the opening leaves it.
@@ -689,7 +714,9 @@ impl<K: ChannelKeys + Copy> Nodes<K> {
             Step::Do(end, what) => self.act(alloc, end, what, lines),
             Step::Down(end) => self.pass(alloc, ChannelStep::Down(end), lines),
             Step::NoMemory(end, what) => self.halt(alloc, end, what, lines),
+            Step::SaveFails(end, what, left) => self.fail_save(alloc, end, what, left, lines),
             Step::Restart(node) => self.restart(alloc, node, lines),
+            Step::Reload(end) => self.pass(alloc, ChannelStep::Reload(end), lines),
             Step::StopBefore(end, what) => self.stop_before(alloc, end, what, lines),
             Step::StopAfter(end, what) => self.stop_after(alloc, end, what, lines),
             Step::Up(number) => self.pass(alloc, ChannelStep::Up(number), lines),

@@ -3,7 +3,7 @@
 use ln_close::Fees;
 use ln_keys::ChannelKeys;
 use ln_log::Limits;
-use ln_world_channels::{Act, End, Node, Open};
+use ln_world_channels::{Act, End, Node, Open, RecordLeft};
 
 /// What may happen in a world of nodes: what `ln_world_channels::Step` says, and to dispatchers what is said here.
 #[derive(Drop)]
@@ -15,8 +15,12 @@ pub enum Step<K: ChannelKeys + Copy> {
     Down(End),
     /// The end's dispatcher goes on.
     NoMemory(End, Act),
+    /// The end's dispatcher goes on.
+    SaveFails(End, Act, RecordLeft),
     /// The node's dispatchers give up their hooks, and begin at the first undecided event.
     Restart(Node),
+    /// The end's dispatcher goes on, with its hooks.
+    Reload(End),
     StopBefore(End, Act),
     StopAfter(End, Act),
     Up(u8),

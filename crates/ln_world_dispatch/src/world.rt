@@ -251,7 +251,11 @@ impl<K: ChannelKeys + Copy, H: Serve> World<K, H> {
             Step::Do(end, what) => self.pass(alloc, Step::Do(end, what), lines),
             Step::Down(end) => self.pass(alloc, Step::Down(end), lines),
             Step::NoMemory(end, what) => self.pass(alloc, Step::NoMemory(end, what), lines),
+            Step::SaveFails(end, what, left) => {
+                self.pass(alloc, Step::SaveFails(end, what, left), lines)
+            }
             Step::Restart(node) => self.restart(alloc, node, lines),
+            Step::Reload(end) => self.pass(alloc, Step::Reload(end), lines),
             Step::StopBefore(end, what) => self.stop_before(alloc, end, what, lines),
             Step::StopAfter(end, what) => self.stop_after(alloc, end, what, lines),
             Step::Up(number) => self.pass(alloc, Step::Up(number), lines),

@@ -18,6 +18,12 @@ returns-in-Down-clause-stepped g c = rw c.in-Down.is c.pass-in-Down.ensures.step
 pub returns-in-NoMemory-clause-stepped : goal.returns-in-NoMemory-clause-stepped
 returns-in-NoMemory-clause-stepped g c = rw c.in-NoMemory.is c.pass-in-NoMemory.ensures.stepped
 
+pub returns-in-SaveFails-clause-stepped : goal.returns-in-SaveFails-clause-stepped
+returns-in-SaveFails-clause-stepped g c = rw c.in-SaveFails.is c.pass-in-SaveFails.ensures.stepped
+
+pub returns-in-Reload-clause-stepped : goal.returns-in-Reload-clause-stepped
+returns-in-Reload-clause-stepped g c = rw c.in-Reload.is c.pass-in-Reload.ensures.stepped
+
 pub returns-in-Restart-clause-stepped : goal.returns-in-Restart-clause-stepped
 returns-in-Restart-clause-stepped g c = rw c.in-Restart.is c.restart.ensures.stepped
 
