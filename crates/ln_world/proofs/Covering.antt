@@ -17,20 +17,26 @@ use Rattle.ln_log.specs.Log as log
 use Rattle.ln_log.proofs.Removing.{add_with-more}
 use Rattle.ln_channel.specs.End.{End as ChannelEnd, end_dropped}
 use Rattle.ln_channel.specs.Record.{saved_end}
-use Rattle.ln_channel.specs.State.{State}
+use Rattle.ln_channel.specs.State.{State, is_down, cut}
+use Rattle.ln_channel.specs.State as state
+use Rattle.ln_channel.specs.declared.machine.ConnectionState.TheVariants.{Down}
+use Rattle.ln_channel.specs.declared.machine.Stage.{Stage}
+use Rattle.ln_channel.specs.declared.machine.Stage.TheVariants as stage
 use Rattle.ln_channel.specs.Step.{Done}
 use Rattle.ln_world_channels.specs.declared.step.Act.{Act}
 use Rattle.ln_world_channels.specs.declared.step.Node.{Node}
+use Rattle.ln_world_channels.specs.declared.step.RecordLeft.{RecordLeft}
+use Rattle.ln_world_channels.specs.declared.step.RecordLeft.TheVariants as record_left
 use Rattle.ln_world_channels.specs.declared.step.Step.{Step as ChannelStep}
 use Rattle.ln_world_channels.specs.declared.step.Step.TheVariants as channel_step
 use Rattle.ln_world_channels.specs.Settings.{channel_id_of}
-use Rattle.ln_world_channels.specs.Both.{Both, Move, By, Disconnects, Halts, Restarts, Stops, Meet, moves, back}
-use Rattle.ln_world_channels.specs.Both.{run as run_both}
+use Rattle.ln_world_channels.specs.Both.{Both, Move, By, Disconnects, Halts, Restarts, Stops, HaltsAfter, Meet, moves}
+use Rattle.ln_world_channels.specs.Both.{back, run as run_both}
 use Rattle.ln_world_channels.specs.WorldChannel.{WorldChannel, place_of, side_of, by, moved, act_moves}
 use Rattle.ln_world_channels.specs.WorldChannel.{disconnect_moves}
-use Rattle.ln_world_channels.specs.WorldChannel.{halt_moves, restart_moves}
+use Rattle.ln_world_channels.specs.WorldChannel.{halt_moves, failed_save_moves, restart_moves}
 use Rattle.ln_world_channels.specs.WorldChannel.{stop_moves, up_moves, may_meet}
-use Rattle.ln_world_channels.specs.World.{World as Channels, channel, moved_if, may_be_done, may_open}
+use Rattle.ln_world_channels.specs.World.{World as Channels, channel, moved_if, may_be_done, may_reload, may_open}
 use Rattle.ln_world_channels.specs.World as channels
 use Rattle.ln_world_channels.specs.Promises.{Each}
 use Rattle.ln_world_channels.proofs.Kept.{IsRun, IsOpen}
@@ -47,7 +53,7 @@ use Rattle.ln_world.specs.Circuit.{IsCovered}
 use Rattle.ln_world.proofs.Answering.{LinkIs, RowSteps}
 use Rattle.ln_world.proofs.Ends.{is_link}
 use Rattle.ln_world.proofs.Moving.{IsOfSide, row_of, Acted, own_acts, own_falls, own_halts, own_restarts}
-use Rattle.ln_world.proofs.Moving.{other_stays}
+use Rattle.ln_world.proofs.Moving.{own_halts_after, other_stays, halts_after_side}
 use Rattle.ln_world.proofs.Moving.{drops_is, halts_is, back_is, greeted_is, met_x, met_y}
 use Rattle.ln_world.proofs.Scene.{link_in, linked, lookup_map, each_found, same_number}
 use Rattle.ln_world.proofs.Moving.{acts_side, stops_side, falls_side, halts_side, restarts_side}
@@ -123,6 +129,24 @@ module _ {K : Type 0} where
       subst (λ o. (y : ChannelEnd) × (saved_of (Some (back keys s o)) ≡ Some y) × Covers z y) (sym is)
       (end_dropped z, refl, dropped_covers z)
 
+  halt_link : (s : State K) → LinkCovers (Some s) (Some (state.halts s))
+  halt_link s z is = by_line (is_down s.connection)
+    where
+      by_stage : (g : Stage) → saved_end g ≡ Some z
+          → (y : ChannelEnd) × (saved_end (cut g) ≡ Some y) × Covers z y
+      by_stage (stage.Funded e) f = let same : e ≡ z = cc in
+          (end_dropped z, ap (λ (q : ChannelEnd). Some (end_dropped q)) same, dropped_covers z)
+      by_stage (stage.AwaitsOpen c) f = absurd (cc)
+      by_stage (stage.AwaitsAccept c) f = absurd (cc)
+      by_stage (stage.AwaitsCreated c) f = absurd (cc)
+      by_stage (stage.AwaitsSigned e) f = absurd (cc)
+      by_stage stage.Gone f = absurd (cc)
+
+      by_line : (b : Bool) → (y : ChannelEnd)
+          × (saved_end (cond b s (record s { connection = Down; stage = cut s.stage })).stage ≡ Some y) × Covers z y
+      by_line true = (z, is, λ i a c. c)
+      by_line false = by_stage s.stage is
+
 -- ---- of a move of a channel
 
 module _ {K : Type 0} (signer : K → Signer) (id : List ℕ) (p : Both K) (r : IsRun signer id p) where
@@ -185,6 +209,13 @@ module _ {K : Type 0} (signer : K → Signer) (id : List ℕ) (p : Both K) (r : 
       let g = restart_link q.keys q.link f.0 f.1 f.0 f.1 in
       (g.0, ap (λ z. saved_of (Some z)) (stops_link side a) ∙ g.1, λ i z c. g.2 i z (f.2 i z c))
 
+  halts_after_cover : (a : Act) (side : Role) → own_covers (λ s. HaltsAfter s a) side
+  halts_after_cover a side =
+      let q = place_of side (moves signer id (By side a) p) in
+      then_covers (Some (place_of side p).link) (Some q.link)
+      (Some (place_of side (moves signer id (HaltsAfter side a) p)).link) (acts_cover a side)
+      (subst (λ z. LinkCovers (Some q.link) (Some z)) (sym (own_halts_after signer id side a p)) (halt_link q.link))
+
   meets_cover : (side : Role)
       → LinkCovers (Some (place_of side p).link) (Some (place_of side (moves signer id Meet p)).link)
   meets_cover Funder = let l = is_link signer id p r Funder in
@@ -211,6 +242,8 @@ module _ {K : Type 0} (signer : K → Signer) (id : List ℕ) (p : Both K) (r : 
   move_covers (Halts s) side = each_side Halts halts_side halts_cover s side
   move_covers (Restarts s) side = each_side Restarts restarts_side restarts_cover s side
   move_covers (Stops s a) side = each_side (λ z. Stops z a) (stops_side a) (stops_cover a) s side
+  move_covers (HaltsAfter s a) side =
+      each_side (λ z. HaltsAfter z a) (halts_after_side a) (halts_after_cover a) s side
   move_covers Meet side = meets_cover side
 
 -- ---- of a step of channels
@@ -227,6 +260,11 @@ by_short (Some side) f = tt
 either_short : (b : Bool) (ms ns : List Move) → IsShort ms → IsShort ns → IsShort (cond b ms ns)
 either_short true ms ns h k = h
 either_short false ms ns h k = k
+
+failed_save_short : {K : Type 0} (left : RecordLeft) (n : Node) (a : Act) (c : WorldChannel K)
+    → IsShort (failed_save_moves left n a c)
+failed_save_short record_left.Old n a c = by_short (side_of n c) Halts
+failed_save_short record_left.New n a c = by_short (side_of n c) (λ side. HaltsAfter side a)
 
 module _ {K : Type 0} (k : Ghosts K) (n : Node) (d : ℕ) where
   one_covers : (f : WorldChannel K → List Move) → ((c : WorldChannel K) → IsShort (f c)) → (c : WorldChannel K)
@@ -300,6 +338,12 @@ module _ {K : Type 0} (k : Ghosts K) (n : Node) (d : ℕ) where
   step_covers (channel_step.NoMemory e a) w o = either_covers (may_be_done e a w.channels)
       (channels.at k.signer e.channel (halt_moves e.node) w) w
       (at_covers e.channel (halt_moves e.node) (λ c. by_short (side_of e.node c) Halts) w.channels o)
+  step_covers (channel_step.SaveFails e a left) w o = either_covers (may_be_done e a w.channels)
+      (channels.at k.signer e.channel (failed_save_moves left e.node a) w) w
+      (at_covers e.channel (failed_save_moves left e.node a) (failed_save_short left e.node a) w.channels o)
+  step_covers (channel_step.Reload e) w o = either_covers (may_reload e w.channels)
+      (channels.at k.signer e.channel (restart_moves e.node) w) w
+      (at_covers e.channel (restart_moves e.node) (λ c. by_short (side_of e.node c) Restarts) w.channels o)
   step_covers (channel_step.Restart m) w o =
       all_cover (restart_moves m) (λ c. by_short (side_of m c) Restarts) w.channels o
   step_covers (channel_step.StopBefore e a) w o = either_covers (may_be_done e a w.channels)

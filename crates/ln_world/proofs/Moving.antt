@@ -21,7 +21,7 @@ use Rattle.ln_world_channels.specs.declared.step.Act.TheVariants as act
 use Rattle.ln_world_channels.specs.Both.{SimEnd, Both, delivers, left, unchanged, acts, back}
 use Rattle.ln_world_channels.specs.Both.{first_message, greeted, comes_up, moves, Move, By, Disconnects}
 use Rattle.ln_world_channels.specs.Both.{Halts, Restarts}
-use Rattle.ln_world_channels.specs.Both.{Stops, Meet}
+use Rattle.ln_world_channels.specs.Both.{Stops, HaltsAfter, Meet}
 use Rattle.ln_world_channels.specs.WorldChannel.{place_of}
 use Rattle.ln_world_channels.proofs.Mirror.{link_at, reached_link}
 use Rattle.ln_world.proofs.Answering.{LinkIs, Steps, handled_shifts, commanded_shifts, message_left}
@@ -86,6 +86,7 @@ IsOfSide (Disconnects r) s = IsSide r s
 IsOfSide (Halts r) s = IsSide r s
 IsOfSide (Restarts r) s = IsSide r s
 IsOfSide (Stops r a) s = IsSide r s
+IsOfSide (HaltsAfter r a) s = IsSide r s
 IsOfSide Meet s = ⊥
 
 pub acts_side : (a : Act) (s : Role) → IsOfSide (By s a) s
@@ -95,6 +96,10 @@ acts_side a Fundee = tt
 pub stops_side : (a : Act) (s : Role) → IsOfSide (Stops s a) s
 stops_side a Funder = tt
 stops_side a Fundee = tt
+
+pub halts_after_side : (a : Act) (s : Role) → IsOfSide (HaltsAfter s a) s
+halts_after_side a Funder = tt
+halts_after_side a Fundee = tt
 
 pub falls_side : (s : Role) → IsOfSide (Disconnects s) s
 falls_side Funder = tt
@@ -180,6 +185,13 @@ module _ {K : Type 0} (signer : K → Signer) (id : List ℕ) where
   own_halts Funder p = refl
   own_halts Fundee p = refl
 
+  pub own_halts_after : (side : Role) (a : Act) (p : Both K)
+      → (place_of side (moves signer id (HaltsAfter side a) p)).link
+      ≡ state.halts (place_of side (moves signer id (By side a) p)).link
+  unfolding moves
+  own_halts_after Funder a p = refl
+  own_halts_after Fundee a p = refl
+
   pub own_restarts : (side : Role) (p : Both K) → (place_of side (moves signer id (Restarts side) p)).link
       ≡ back (place_of side p).keys (place_of side p).link (saved_end (place_of side p).link.stage)
   unfolding moves
@@ -214,6 +226,10 @@ module _ {K : Type 0} (signer : K → Signer) (id : List ℕ) where
       cases (Stops Fundee a) Fundee h = refl
       cases (Stops Funder a) Fundee h = absurd h
       cases (Stops Fundee a) Funder h = absurd h
+      cases (HaltsAfter Funder a) Funder h = refl
+      cases (HaltsAfter Fundee a) Fundee h = refl
+      cases (HaltsAfter Funder a) Fundee h = absurd h
+      cases (HaltsAfter Fundee a) Funder h = absurd h
       cases Meet s h = absurd h
 
   pub met_x : (p : Both K) → (moves signer id Meet p).x.link ≡ greeted (first_message signer p.x.link) p.x.link

@@ -342,6 +342,7 @@ module _ {K : Type 0} (k : Ghosts K) where
   abbrev Brings : DispatchStep K k → Type 0
   Brings (dispatcher_step.Fees n fees) = Unit {0}
   Brings (dispatcher_step.Do e a) = record_of.IsAct a
+  Brings (dispatcher_step.SaveFails e a left) = record_of.IsAct a
   Brings (dispatcher_step.StopAfter e a) = record_of.IsAct a
   Brings s = Unit {0}
 
@@ -397,7 +398,10 @@ module _ {K : Type 0} (k : Ghosts K) where
   dispatcher_plain_so (dispatcher_step.Down e) d is = tt
   dispatcher_plain_so (dispatcher_step.NoMemory e a) d is =
       where-either OfChannels (is_dispatched e a d) (Some (channel_step.NoMemory e a)) None tt tt
+  dispatcher_plain_so (dispatcher_step.SaveFails e a left) d is =
+      where-either OfChannels (is_dispatched e a d) (Some (channel_step.SaveFails e a left)) None is tt
   dispatcher_plain_so (dispatcher_step.Restart n) d is = tt
+  dispatcher_plain_so (dispatcher_step.Reload e) d is = tt
   dispatcher_plain_so (dispatcher_step.StopBefore e a) d is =
       where-either OfChannels (is_dispatched e a d) (Some (channel_step.StopBefore e a)) None tt tt
   dispatcher_plain_so (dispatcher_step.StopAfter e a) d is =
@@ -427,6 +431,8 @@ module _ {K : Type 0} (k : Ghosts K) where
   dispatchers_so v (dispatcher_step.Do e a) d new c h = h
   dispatchers_so v (dispatcher_step.Down e) d new c h = h
   dispatchers_so v (dispatcher_step.NoMemory e a) d new c h = h
+  dispatchers_so v (dispatcher_step.SaveFails e a left) d new c h = h
+  dispatchers_so v (dispatcher_step.Reload e) d new c h = h
   dispatchers_so v (dispatcher_step.Restart n) d new c h = restarts_so n new d.dispatchers h
   dispatchers_so v (dispatcher_step.StopBefore e a) d new c h =
       all-when IsServing (may_act e a d) (map (restarts e.node new) d.dispatchers) d.dispatchers
