@@ -2,6 +2,7 @@
 
 use crate::channel::Channel;
 use crate::config::{FitConfig, FitSpec};
+use crate::deep::put;
 use crate::opening::{Agreed, open_channel};
 use crate::output::{Outbox, Output, one};
 use ln_dance::Numbers;
@@ -141,6 +142,32 @@ impl<K: ChannelKeys + Drop> ChannelMachine<K> {
             failure: None,
             stage: Stage::AwaitsOpen(config),
         }
+    }
+
+    /// A link begins anew in its place, with the keys that it has, as a funder that opens a channel by this spec. Takes
+    /// no memory.
+    pub fn begin_as_funder(&mut self, spec: FitSpec)
+        ensures { StandsFor self.new (begun self.old.keys (stage.AwaitsAccept spec)) }
+    {
+        self.begin(Stage::AwaitsAccept(spec));
+    }
+
+    /// A link begins anew in its place, with the keys that it has, as a fundee that takes a channel with this config.
+    /// Takes no memory.
+    pub fn begin_as_fundee(&mut self, config: FitConfig)
+        ensures { StandsFor self.new (begun self.old.keys (stage.AwaitsOpen config)) }
+    {
+        self.begin(Stage::AwaitsOpen(config));
+    }
+
+    // It begins with this stage.
+    fn begin(&mut self, stage: Stage)
+        ensures { StandsFor self.new (begun self.old.keys stage) }
+    {
+        self.connection = ConnectionState::Down;
+        self.halted = false;
+        self.failure = None;
+        put(&mut self.stage, stage);
     }
 
     /// The connection is lost (BOLT 2, "Message Retransmission"): updates that no signature covers are gone, and so is

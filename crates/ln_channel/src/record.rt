@@ -1,6 +1,7 @@
 //! What of a link outlives a restart: the end of its channel, and by what the channel has failed.
 
 use crate::channel::{Channel, Readiness};
+use crate::deep::put;
 use crate::ledger::EventLedger;
 use crate::machine::{ChannelMachine, ConnectionState, Stage};
 use crate::opening::Terms;
@@ -36,6 +37,17 @@ impl<K: ChannelKeys + Drop> ChannelMachine<K> {
             failure,
             stage: Stage::Funded(channel),
         }
+    }
+
+    /// A link comes back in its place from what was kept of it: without a connection, and with the keys that it has.
+    /// Takes no memory.
+    pub fn reload(&mut self, failure: Option<Refusal>, channel: Channel)
+        ensures { StandsFor self.new (came_back self.old.keys failure channel) }
+    {
+        self.connection = ConnectionState::Down;
+        self.halted = false;
+        self.failure = failure;
+        put(&mut self.stage, Stage::Funded(channel));
     }
 }
 

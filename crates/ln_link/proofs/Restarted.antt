@@ -8,7 +8,7 @@ use Rattle.ln_channel.specs.Record.{came_back}
 use Rattle.ln_channel.specs.State.{State}
 use Rattle.ln_store.specs.declared.record.Items.{Items}
 use Rattle.ln_link.specs.Record.{header_of, items_of}
-use Rattle.ln_link.specs.Loading.{HasRecord, Loads, end_of}
+use Rattle.ln_link.specs.Loading.{HasRecord, TellsEnd, Loads, end_of}
 use Rattle.ln_link.proofs.Loaded.{loadable}
 
 abbrev read : Items → Result Items Refusal
@@ -21,6 +21,16 @@ same_items i j e = cc
 pub same_failure : (failure : Option Refusal) (e : End) → (items_of failure e).header.failure ≡ failure
 unfolding items_of header_of
 same_failure failure e = refl
+
+-- a link that has what a record tells of its end is loaded of it
+pub loads_told : {K : Type 0} (keys : K) (told : Result Items Refusal) (k : Option Refusal × End) (l : State K)
+    → l ≡ came_back keys k.0 k.1 → TellsEnd told (Ok k) → Loads keys told (Ok l)
+loads_told keys told k l is tells = (
+  tells.0,
+  tells.1,
+  tells.2,
+  is ∙ ap (λ (t : Option Refusal × End). came_back keys t.0 t.1) tells.3,
+)
 
 -- a link that has the end again, as its record tells it
 pub comes_back : {K : Type 0} (keys : K) (failure : Option Refusal) (e : End)

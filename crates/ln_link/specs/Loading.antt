@@ -278,11 +278,22 @@ abbrev pub IsFault : Refusal → Result Items Refusal → Type 0
 IsFault e (Ok i) = (e ≡ refusal.Damaged) × ¬ IsLoadable i
 IsFault e (Err r) = e ≡ r
 
+-- by what the channel has failed, and its end, as the items tell them, where they can be loaded; else the first fault,
+-- but for want of memory
+abbrev pub TellsEnd : Result Items Refusal → Result (Option Refusal × End) Refusal → Type 0
+TellsEnd read (Ok k) = (i : Items) × (read ≡ Ok i) × IsLoadable i × (k ≡ (i.header.failure, end_of i))
+TellsEnd read (Err e) = (e ≡ refusal.Memory) ⊎ IsFault e read
+
 -- the link that the items tell, where they can be loaded; else the first fault, but for want of memory
 abbrev pub Loads : {K : Type 0} → K → Result Items Refusal → Result (State K) Refusal → Type 0
 Loads keys read (Ok l) = (i : Items) × (read ≡ Ok i) × IsLoadable i
     × StandsFor l (came_back keys i.header.failure (end_of i))
 Loads keys read (Err e) = (e ≡ refusal.Memory) ⊎ IsFault e read
+
+-- it comes back in its place, with the keys that it has; refused, it is as it was
+abbrev pub Reloads : {K : Type 0} → State K → Result Items Refusal → Result (Unit {0}) Refusal → State K → Type 0
+Reloads l read (Ok u) l' = Loads l.keys read (Ok l')
+Reloads l read (Err e) l' = Loads l.keys read (Err e) × (l' ≡ l)
 
 -- ---- what is saved
 

@@ -10,7 +10,7 @@ ghost use Rattle.ln_channel.specs.State.{State, StandsFor};
 ghost use Rattle.ln_link.specs.Saving.{Saves, is_update, sends_update, taken_alone, sent_alone, is_uncovered};
 ghost use Rattle.ln_link.specs.Saving.{is_forgotten, base_in, is_known, CannotTell};
 
-use crate::loading::loaded;
+use crate::loading::{kept_in, loaded};
 use crate::record::to_record;
 use ln_channel::{Channel, ChannelMachine, Command, FitConfig, FitSpec, Output};
 use ln_hooks::ChannelEvent;
@@ -213,7 +213,7 @@ impl<K: ChannelKeys + Drop> Link<K> {
     ghost use Rattle.ln_store.specs.Readable.{is_readable};
     ghost use Rattle.ln_store.specs.Record.{record_at, IsSpelledBy, is_sealed, version_of, is_known_version};
     ghost use Rattle.ln_store.specs.declared.record.Items.{Items};
-    ghost use Rattle.ln_link.specs.Loading.{Loads, ComesBackOf, IsCameBack};
+    ghost use Rattle.ln_link.specs.Loading.{Loads, Reloads, ComesBackOf, IsCameBack};
     ghost use Rattle.ln_link.specs.Saving.{Keeps, Settles, Refuses, is_failing, AnswersMessage, AnswersOver};
     ghost use Rattle.ln_link.specs.Saving.{AnswersCommand};
 
@@ -233,6 +233,22 @@ impl<K: ChannelKeys + Drop> Link<K> {
         Link {
             channel_machine: ChannelMachine::fundee(keys, config),
         }
+    }
+
+    /// A link begins anew in its place, with the keys that it has, as a funder that opens a channel by this spec. Takes
+    /// no memory.
+    pub fn begin_as_funder(&mut self, spec: FitSpec)
+        ensures { StandsFor self.new (begun self.old.keys (stage.AwaitsAccept spec)) }
+    {
+        self.channel_machine.begin_as_funder(spec);
+    }
+
+    /// A link begins anew in its place, with the keys that it has, as a fundee that takes a channel with this config.
+    /// Takes no memory.
+    pub fn begin_as_fundee(&mut self, config: FitConfig)
+        ensures { StandsFor self.new (begun self.old.keys (stage.AwaitsOpen config)) }
+    {
+        self.channel_machine.begin_as_fundee(config);
     }
 
     /// The link that comes back from the bytes of its record, without a connection: what a lost connection leaves of
@@ -258,6 +274,16 @@ impl<K: ChannelKeys + Drop> Link<K> {
     {
         let channel_machine = loaded(alloc, keys, bytes)?;
         Ok(Link { channel_machine })
+    }
+
+    /// The link comes back in its place from the bytes of its record, with the keys that it has: `from_record`, and its
+    /// errors. Refused, it is as it was.
+    pub fn reload(&mut self, alloc: Global, bytes: &[u8]) -> Result<(), Refusal>
+        ensures { Reloads self.old (record_at bytes.now) result self.new }
+    {
+        let (failure, channel) = kept_in(alloc, bytes)?;
+        self.channel_machine.reload(failure, channel);
+        Ok(())
     }
 
     /// A link that was loaded of another one's record takes over the updates that aren't had one by one any more, which

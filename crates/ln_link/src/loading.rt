@@ -22,7 +22,7 @@ ghost use Rattle.ln_store.specs.Sides.{count_of, window_of};
 ghost use Rattle.ln_store.specs.declared.record.Items.{Items};
 ghost use Rattle.ln_link.specs.Loading.{open_in, accept_in, terms_of, readiness_of, closing_of, counts_by, balances_in};
 ghost use Rattle.ln_link.specs.Loading.{place_in, live_htlcs_in, counts_in, coverage_in, log_of, dance_of};
-ghost use Rattle.ln_link.specs.Loading.{ledger_of, end_of, short_id_of, TellsLog, IsLoadable, Loads};
+ghost use Rattle.ln_link.specs.Loading.{ledger_of, end_of, short_id_of, TellsLog, IsLoadable, TellsEnd, Loads};
 
 use crate::record::opening_of;
 use ln_bytes::{Bytes, Fault, ShortId};
@@ -399,6 +399,27 @@ fn channel_of(alloc: Global, items: Items) -> Result<Channel, Refusal>
     Ok(Channel::from_parts(dance, closing, terms, readiness, ledger))
 }
 
+/// What the bytes of a record tell of a channel: by what it has failed, and its end.
+///
+/// Errors: those of `Link::from_record`.
+pub(crate) fn kept_in(alloc: Global, bytes: &[u8]) -> Result<(Option<Refusal>, Channel), Refusal>
+    // What they tell, or the first fault.
+    ensures tells_as_defined { TellsEnd (record_at bytes.now) result }
+
+    // What spells readable items tells of them.
+    ensures tells_each_record { (i : Items) → is_readable i ≡ true → IsSpelledBy bytes.now i → TellsEnd (Ok i) result }
+
+    // What is told before a body of this version is looked at takes no memory.
+    ensures takes_memory_for_the_body { IsErrOf result refusal.Memory
+        → (is_sealed bytes.now ≡ true) × (is_known_version (version_of bytes.now) ≡ true) }
+{
+    let record = decode_record(alloc, bytes)?;
+    let items = record.into_items();
+    let failure = items.header.failure;
+    let channel = channel_of(alloc, items)?;
+    Ok((failure, channel))
+}
+
 /// What comes back from the bytes of a record, without a connection.
 ///
 /// Errors: those of `Link::from_record`.
@@ -418,9 +439,6 @@ pub(crate) fn loaded<K: ChannelKeys + Drop>(
     ensures takes_memory_for_the_body { IsErrOf result refusal.Memory
         → (is_sealed bytes.now ≡ true) × (is_known_version (version_of bytes.now) ≡ true) }
 {
-    let record = decode_record(alloc, bytes)?;
-    let items = record.into_items();
-    let failure = items.header.failure;
-    let channel = channel_of(alloc, items)?;
+    let (failure, channel) = kept_in(alloc, bytes)?;
     Ok(ChannelMachine::come_back(keys, failure, channel))
 }

@@ -11,39 +11,39 @@ use Rattle.ln_node.specs.declared.opening.Beginning.{Beginning}
 use Rattle.ln_node.specs.Opening.{Held, BeginsAnew, Renews, Keeps, ConnectsBy, LoadsNew, LoadsOrRenews}
 use Rattle.ln_node.specs.Opening.{is_unopened, lacks_record}
 
-abbrev pub held : {K : Type 0} → K → State K → StoreView → Beginning → Held K
-held keys l store_view b = record { saved = record { keys = keys; link = l; store_view = store_view }; beginning = b }
+abbrev pub held : {K : Type 0} → State K → StoreView → Beginning → Held K
+held l store_view b = record { saved = record { link = l; store_view = store_view }; beginning = b }
 
-pub renewed : {K : Type 0} (keys : K) (l l' : State K) (store_view : StoreView) (b : Beginning)
-    (said : Result (List Output) Refusal) → BeginsAnew keys b said l l'
-    → Renews (held keys l store_view b) said (held keys l' store_view b)
-renewed keys l l' store_view b said begins = record { link = begins; keys = refl; store_view = refl; beginning = refl }
+pub renewed : {K : Type 0} (l l' : State K) (store_view : StoreView) (b : Beginning)
+    (said : Result (List Output) Refusal) → BeginsAnew b said l l'
+    → Renews (held l store_view b) said (held l' store_view b)
+renewed l l' store_view b said begins = record { link = begins; store_view = refl; beginning = refl }
 
 module _ {K : Type 0} (signer : K → Signer) where
   -- there is no new link
-  pub refused : (keys : K) (l l' : State K) (store_view : StoreView) (b : Beginning) (e : Refusal)
+  pub refused : (l l' : State K) (store_view : StoreView) (b : Beginning) (e : Refusal)
       → is_unopened l ≡ true
-      → BeginsAnew keys b (Err e) l l'
-      → ConnectsBy signer (is_unopened l) (held keys l store_view b) (Err e) (held keys l' store_view b)
-  refused keys l l' store_view b e is begins =
-      subst (λ t. ConnectsBy signer t (held keys l store_view b) (Err e) (held keys l' store_view b)) (sym is) (record {
+      → BeginsAnew b (Err e) l l'
+      → ConnectsBy signer (is_unopened l) (held l store_view b) (Err e) (held l' store_view b)
+  refused l l' store_view b e is begins =
+      subst (λ t. ConnectsBy signer t (held l store_view b) (Err e) (held l' store_view b)) (sym is) (record {
         anew = Err e;
-        between = held keys l' store_view b;
-        renews = renewed keys l l' store_view b (Err e) begins;
+        between = held l' store_view b;
+        renews = renewed l l' store_view b (Err e) begins;
         connects = (refl, refl);
       })
 
   -- a new link has the connection
-  pub connected : (keys : K) (l l' : State K) (store_view : StoreView) (b : Beginning) (said : Result
+  pub connected : (l l' : State K) (store_view : StoreView) (b : Beginning) (said : Result
       (List Output) Refusal)
-      (h' : Held K) → is_unopened l ≡ true → BeginsAnew keys b (Ok []) l l'
-      → Keeps signer (held keys l' store_view b) Connects said h'
-      → ConnectsBy signer (is_unopened l) (held keys l store_view b) said h'
-  connected keys l l' store_view b said h' is begins keeps =
-      subst (λ t. ConnectsBy signer t (held keys l store_view b) said h') (sym is) (record {
+      (h' : Held K) → is_unopened l ≡ true → BeginsAnew b (Ok []) l l'
+      → Keeps signer (held l' store_view b) Connects said h'
+      → ConnectsBy signer (is_unopened l) (held l store_view b) said h'
+  connected l l' store_view b said h' is begins keeps =
+      subst (λ t. ConnectsBy signer t (held l store_view b) said h') (sym is) (record {
         anew = Ok [];
-        between = held keys l' store_view b;
-        renews = renewed keys l l' store_view b (Ok []) begins;
+        between = held l' store_view b;
+        renews = renewed l l' store_view b (Ok []) begins;
         connects = keeps;
       })
 

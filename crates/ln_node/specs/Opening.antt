@@ -35,15 +35,14 @@ Begins keys (Fundee c) r = IsNew (begun keys (stage.AwaitsOpen c)) r
 Begins keys (Funder s) r = IsNew (begun keys (stage.AwaitsAccept s)) r
 Begins keys Over r = r ≡ Err refusal.NotReady
 
--- it is in the place of the one that there was; where there is none, that stays
-abbrev pub BeginsAnew : {K : Type 0} → K → Beginning → Result (List Output) Refusal → State K → State K → Type 0
-BeginsAnew keys b (Ok os) l l' = (os ≡ []) × Begins keys b (Ok l')
-BeginsAnew keys b (Err e) l l' = Begins keys b (Err e) × (l' ≡ l)
+-- it is in the place of the one that there was, with its keys; where there is none, that stays
+abbrev pub BeginsAnew : {K : Type 0} → Beginning → Result (List Output) Refusal → State K → State K → Type 0
+BeginsAnew b (Ok os) l l' = (os ≡ []) × Begins l.keys b (Ok l')
+BeginsAnew b (Err e) l l' = Begins l.keys b (Err e) × (l' ≡ l)
 
 -- and nothing else changes
 pub record Renews {K : Type 0} (h : Held K) (said : Result (List Output) Refusal) (h' : Held K) : Type 0 where
-  pub link : BeginsAnew h.saved.keys h.beginning said h.saved.link h'.saved.link
-  pub keys : h'.saved.keys ≡ h.saved.keys
+  pub link : BeginsAnew h.beginning said h.saved.link h'.saved.link
   pub store_view : h'.saved.store_view ≡ h.saved.store_view
   pub beginning : h'.beginning ≡ h.beginning
 

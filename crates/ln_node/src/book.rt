@@ -303,7 +303,7 @@ impl<O: Onion + Copy + Drop> SharedBook<O> {
 
 impl<K, S, O> ReadsEnds<NodeLink<K, S>> for SharedBook<O>
 where
-    K: ChannelKeys + Copy,
+    K: ChannelKeys + Drop,
     S: RecordStore + Drop,
     O: Onion + Copy + Drop,
 {

@@ -44,7 +44,7 @@ use std::thread::Threads;
 /// A node of a payment channel network: channels by number, from 0, each with a reader of its connections, a worker
 /// that has its link and its store, and a dispatcher of its hooks, in threads of their own; and the book of the
 /// payments that it forwards. It runs until `stop`.
-pub struct Node<K: ChannelKeys + Copy, S: Drop, O: Drop, H: Drop, T: Drop, W: Drop = TcpStream> {
+pub struct Node<K: ChannelKeys + Drop, S: Drop, O: Drop, H: Drop, T: Drop, W: Drop = TcpStream> {
     stopping: Arc<AtomicU64>,
     pub(crate) common: Common<O>,
     pub(crate) channels: Vec<ChannelThreads<S, H, W>>,
@@ -54,7 +54,7 @@ pub struct Node<K: ChannelKeys + Copy, S: Drop, O: Drop, H: Drop, T: Drop, W: Dr
     of: PhantomData<(K, T)>,
 }
 
-impl<K: ChannelKeys + Copy, S: Drop, O: Drop, H: Drop, T: Drop, W: Drop> Node<K, S, O, H, T, W> {
+impl<K: ChannelKeys + Drop, S: Drop, O: Drop, H: Drop, T: Drop, W: Drop> Node<K, S, O, H, T, W> {
     ghost use Rattle.std.specs.Prelude.{◌≡◌};
 
     // Its channels; what else it has is dropped.
@@ -75,7 +75,7 @@ impl<K: ChannelKeys + Copy, S: Drop, O: Drop, H: Drop, T: Drop, W: Drop> Node<K,
 }
 
 // By hand: crates above don't prove again how its parts are dropped.
-impl<K: ChannelKeys + Copy, S: Drop, O: Drop, H: Drop, T: Drop, W: Drop> Drop
+impl<K: ChannelKeys + Drop, S: Drop, O: Drop, H: Drop, T: Drop, W: Drop> Drop
     for Node<K, S, O, H, T, W> {
     fn drop(self) {
         drop(self.into_channels());
@@ -185,7 +185,7 @@ where
 
 impl<K, S, O, H, T, W> Node<K, S, O, H, T, W>
 where
-    K: ChannelKeys + Copy + Send + 'static,
+    K: ChannelKeys + Drop + Send + 'static,
     S: RecordStore + Drop + Send + 'static,
     O: Onion + Copy + Drop + Send + 'static,
     H: Drop + Send + 'static,

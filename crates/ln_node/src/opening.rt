@@ -35,7 +35,7 @@ pub(crate) enum Beginning {
 /// A link with its store, and what a new link in its place begins with: an opening that is lost before it is signed
 /// begins anew with the next connection. Both lie in boxes, so that who owns it knows nothing of their parts.
 #[derive(Drop)]
-pub(crate) struct NodeLink<K: ChannelKeys + Copy, S: Drop> {
+pub(crate) struct NodeLink<K: ChannelKeys + Drop, S: Drop> {
     /// The link with its store.
     pub(crate) saved: Box<SavedLink<K, ObservedStore<S>>>,
     /// What a new one begins with.
@@ -45,7 +45,7 @@ pub(crate) struct NodeLink<K: ChannelKeys + Copy, S: Drop> {
 // ---- a new link
 
 // The link that begins so. 40 where there is none; 60 where there is no memory.
-fn new_link<K: ChannelKeys + Copy>(keys: K, beginning: &Beginning) -> Result<Link<K>, Refusal>
+fn new_link<K: ChannelKeys + Drop>(keys: K, beginning: &Beginning) -> Result<Link<K>, Refusal>
     ensures { Begins keys beginning.now result }
 {
     match beginning {
@@ -68,20 +68,29 @@ fn replace<T: Drop>(place: &mut T, value: T)
     *place = value;
 }
 
-// A new link in the place of one. 40 where there is none; 60 where there is no memory.
-fn begin_anew<K: ChannelKeys + Copy>(
-    keys: K,
+// A new link in the place of one, with its keys. 40 where there is none; 60 where there is no memory.
+fn begin_anew<K: ChannelKeys + Drop>(
     beginning: &Beginning,
     link: &mut Link<K>,
 ) -> Result<(), Refusal>
-    ensures { BeginsAnew keys beginning.now (loaded result) link.old link.new }
+    ensures { BeginsAnew beginning.now (loaded result) link.old link.new }
 {
-    match new_link(keys, beginning) {
-        Ok(new) => {
-            replace(link, new);
-            Ok(())
-        }
-        Err(refusal) => Err(refusal),
+    match beginning {
+        Beginning::Fundee(config) => match config.clone() {
+            Ok(config) => {
+                link.begin_as_fundee(config);
+                Ok(())
+            }
+            Err(_) => Err(Refusal::Memory),
+        },
+        Beginning::Funder(spec) => match spec.clone() {
+            Ok(spec) => {
+                link.begin_as_funder(spec);
+                Ok(())
+            }
+            Err(_) => Err(Refusal::Memory),
+        },
+        Beginning::Over => Err(Refusal::NotReady),
     }
 }
 
@@ -121,23 +130,22 @@ fn boxed<T: Drop>(alloc: Global, value: T) -> Result<Box<T>, Refusal>
 }
 
 // A new link with its store. 40 where none begins so; 60 where there is no memory.
-fn new_saved<K: ChannelKeys + Copy, S: Drop>(
+fn new_saved<K: ChannelKeys + Drop, S: Drop>(
     alloc: Global,
     keys: K,
     beginning: &Beginning,
     store: S,
 ) -> Result<Box<SavedLink<K, S>>, Refusal>
     ensures begins { IfOk result (λ s. Begins keys beginning.now (Ok s.value.link)) }
-    ensures keeps_keys { IfOk result (λ s. s.value.keys ≡ keys) }
     ensures keeps_store { IfOk result (λ s. s.value.store ≡ store) }
 {
     match new_link(keys, beginning) {
-        Ok(link) => boxed(alloc, SavedLink { keys, link, store }),
+        Ok(link) => boxed(alloc, SavedLink { link, store }),
         Err(refusal) => Err(refusal),
     }
 }
 
-impl<K: ChannelKeys + Copy, S: Drop> NodeLink<K, S> {
+impl<K: ChannelKeys + Drop, S: Drop> NodeLink<K, S> {
     // One that begins so.
     fn begun(
         alloc: Global,
@@ -147,7 +155,6 @@ impl<K: ChannelKeys + Copy, S: Drop> NodeLink<K, S> {
     ) -> Result<NodeLink<K, S>, Refusal>
         ensures begins { IfOk result (λ n. Begins keys beginning.value (Ok n.saved.value.link)) }
         ensures begins_anew_alike { IfOk result (λ n. n.beginning.value ≡ beginning.value) }
-        ensures keeps_keys { IfOk result (λ n. n.saved.value.keys ≡ keys) }
         ensures keeps_store { IfOk result (λ n. n.saved.value.store ≡ store) }
     {
         let saved = new_saved(alloc, keys, &beginning, store)?;
@@ -163,7 +170,6 @@ impl<K: ChannelKeys + Copy, S: Drop> NodeLink<K, S> {
     ) -> Result<NodeLink<K, S>, Refusal>
         ensures begins { IfOk result (λ n. Begins keys (Fundee config) (Ok n.saved.value.link)) }
         ensures begins_anew_alike { IfOk result (λ n. n.beginning.value ≡ Fundee config) }
-        ensures keeps_keys { IfOk result (λ n. n.saved.value.keys ≡ keys) }
         ensures keeps_store { IfOk result (λ n. n.saved.value.store ≡ store) }
     {
         let beginning = boxed(alloc, Beginning::Fundee(config))?;
@@ -179,7 +185,6 @@ impl<K: ChannelKeys + Copy, S: Drop> NodeLink<K, S> {
     ) -> Result<NodeLink<K, S>, Refusal>
         ensures begins { IfOk result (λ n. Begins keys (Funder spec) (Ok n.saved.value.link)) }
         ensures begins_anew_alike { IfOk result (λ n. n.beginning.value ≡ Funder spec) }
-        ensures keeps_keys { IfOk result (λ n. n.saved.value.keys ≡ keys) }
         ensures keeps_store { IfOk result (λ n. n.saved.value.store ≡ store) }
     {
         let beginning = boxed(alloc, Beginning::Funder(spec))?;
@@ -200,17 +205,13 @@ impl<K: ChannelKeys + Copy, S: Drop> NodeLink<K, S> {
     }
 }
 
-impl<K: ChannelKeys + Copy, S: RecordStore + Drop> Stores for NodeLink<K, S> {
+impl<K: ChannelKeys + Drop, S: RecordStore + Drop> Stores for NodeLink<K, S> {
     type Store = S;
 
     ghost store = { λ e. e.saved.value.store.inner };
 
     fn into_store(self) -> S {
-        let SavedLink {
-            keys: _,
-            link,
-            store,
-        } = Box::into_inner(self.saved);
+        let SavedLink { link, store } = Box::into_inner(self.saved);
         drop(link);
         store.inner
     }
@@ -233,7 +234,7 @@ fn observed(
     }
 }
 
-impl<K: ChannelKeys + Copy, S: RecordStore + Drop> End for NodeLink<K, S> {
+impl<K: ChannelKeys + Drop, S: RecordStore + Drop> End for NodeLink<K, S> {
     ghost use Rattle.ln_channel.specs.Pending.{pending_at};
     ghost use Rattle.ln_book.specs.Seen.{seen_of};
     ghost use Rattle.ln_node_loops.specs.Signing as signing;
@@ -243,7 +244,6 @@ impl<K: ChannelKeys + Copy, S: RecordStore + Drop> End for NodeLink<K, S> {
 
     ghost state = { λ e. record {
       saved = record {
-        keys = e.saved.value.keys;
         link = e.saved.value.link;
         store_view = S.store_view e.saved.value.store.inner;
       };
@@ -282,7 +282,7 @@ impl<K: ChannelKeys + Copy, S: RecordStore + Drop> End for NodeLink<K, S> {
 
     fn connect(&mut self, alloc: Global) -> Result<Vec<Output>, Refusal> {
         if is_unopened(self.saved.link.channel_machine()) {
-            match begin_anew(self.saved.keys, &self.beginning, &mut self.saved.link) {
+            match begin_anew(&self.beginning, &mut self.saved.link) {
                 Ok(()) => {
                     let said = self.saved.connect(alloc);
                     return observed(alloc, &self.saved.store.observer, said);
@@ -301,7 +301,7 @@ impl<K: ChannelKeys + Copy, S: RecordStore + Drop> End for NodeLink<K, S> {
     fn load(&mut self, alloc: Global) -> Result<(), Refusal> {
         let answer = self.saved.load(alloc);
         if lacks_record(answer) {
-            return begin_anew(self.saved.keys, &self.beginning, &mut self.saved.link);
+            return begin_anew(&self.beginning, &mut self.saved.link);
         }
         answer
     }

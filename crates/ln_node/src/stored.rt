@@ -23,7 +23,7 @@ use std::sync::Arc;
 
 /// What a channel of a node that starts again is made of.
 #[derive(Drop)]
-pub struct Stored<K: ChannelKeys + Copy, S: Drop, T: Drop> {
+pub struct Stored<K: ChannelKeys + Drop, S: Drop, T: Drop> {
     /// Its keys.
     pub keys: K,
     /// The store of its record, which has no other.
@@ -36,7 +36,7 @@ pub struct Stored<K: ChannelKeys + Copy, S: Drop, T: Drop> {
 
 /// The same, with the link.
 #[derive(Drop)]
-pub(crate) struct Loaded<K: ChannelKeys + Copy, S: Drop, T: Drop> {
+pub(crate) struct Loaded<K: ChannelKeys + Drop, S: Drop, T: Drop> {
     pub(crate) end: NodeLink<K, S>,
     pub(crate) table: T,
     pub(crate) address: Option<SocketAddr>,
@@ -54,7 +54,7 @@ fn first_record<S: RecordStore>(alloc: Global, store: &mut S) -> Result<Option<B
 }
 
 // The link that this record tells. 40 where there is none.
-fn come_back<K: ChannelKeys + Copy>(
+fn come_back<K: ChannelKeys + Drop>(
     alloc: Global,
     keys: K,
     found: Option<Bytes>,
@@ -68,7 +68,7 @@ fn come_back<K: ChannelKeys + Copy>(
 }
 
 // The link of the first record in a store.
-fn load<K: ChannelKeys + Copy, S: RecordStore>(
+fn load<K: ChannelKeys + Drop, S: RecordStore>(
     alloc: Global,
     keys: K,
     store: &mut S,
@@ -82,7 +82,7 @@ fn load<K: ChannelKeys + Copy, S: RecordStore>(
 }
 
 // The end of the first record in a store.
-fn load_end<K: ChannelKeys + Copy, S: RecordStore + Drop>(
+fn load_end<K: ChannelKeys + Drop, S: RecordStore + Drop>(
     alloc: Global,
     keys: K,
     store: ObservedStore<S>,
@@ -92,13 +92,13 @@ fn load_end<K: ChannelKeys + Copy, S: RecordStore + Drop>(
 {
     let mut store = store;
     match load(alloc, keys, &mut store) {
-        Ok(link) => NodeLink::loaded(alloc, SavedLink { keys, link, store }),
+        Ok(link) => NodeLink::loaded(alloc, SavedLink { link, store }),
         Err(refusal) => Err(refusal),
     }
 }
 
 // The channel of this number with its link.
-fn load_one<K: ChannelKeys + Copy, S: RecordStore + Drop, T: Drop>(
+fn load_one<K: ChannelKeys + Drop, S: RecordStore + Drop, T: Drop>(
     alloc: Global,
     monitor: &Arc<Monitor>,
     channel: usize,
@@ -126,7 +126,7 @@ fn load_one<K: ChannelKeys + Copy, S: RecordStore + Drop, T: Drop>(
 }
 
 /// The channels with their links, which are watched here.
-pub(crate) fn load_all<K: ChannelKeys + Copy, S: RecordStore + Drop, T: Drop>(
+pub(crate) fn load_all<K: ChannelKeys + Drop, S: RecordStore + Drop, T: Drop>(
     alloc: Global,
     monitor: &Arc<Monitor>,
     stored: Vec<Stored<K, S, T>>,
@@ -142,7 +142,7 @@ pub(crate) fn load_all<K: ChannelKeys + Copy, S: RecordStore + Drop, T: Drop>(
 }
 
 // What channels have of payments.
-fn snapshots<K: ChannelKeys + Copy, S: Drop, T: Drop>(
+fn snapshots<K: ChannelKeys + Drop, S: Drop, T: Drop>(
     alloc: Global,
     loaded: &[Loaded<K, S, T>],
 ) -> Result<Vec<ChannelSnapshot>, Refusal>
@@ -160,7 +160,7 @@ fn snapshots<K: ChannelKeys + Copy, S: Drop, T: Drop>(
 }
 
 /// The book of a node that has these channels. Takes memory. Error: 60 alone.
-pub(crate) fn book_of<K: ChannelKeys + Copy, S: Drop, T: Drop>(
+pub(crate) fn book_of<K: ChannelKeys + Drop, S: Drop, T: Drop>(
     alloc: Global,
     loaded: &[Loaded<K, S, T>],
 ) -> Result<NodeBook, Refusal>

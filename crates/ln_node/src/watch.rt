@@ -15,7 +15,7 @@ use std::sync::Wait;
 
 impl<K, S, O, H, T, W> Node<K, S, O, H, T, W>
 where
-    K: ChannelKeys + Copy + Send + 'static,
+    K: ChannelKeys + Drop + Send + 'static,
     S: RecordStore + Drop + Send + 'static,
     O: Onion + Copy + Drop + Send + 'static,
     H: Drop + Send + 'static,

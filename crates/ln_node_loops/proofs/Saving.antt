@@ -49,12 +49,12 @@ module _ {K V : Type 0} (outs : V → List Output) (l : State K) (new : State K)
 -- ---- a load
 
 pub loads-found : {K : Type 0} (s s' : Saved K) (found : Option (List ℕ)) (answer : Result (Unit {0}) Refusal)
-    → ComesBack s.keys found (loaded answer) s.link s'.link
+    → ComesBack found (loaded answer) s.link s'.link
     → found ≡ record_in s.store_view.records (kept_channel s.link.stage)
     → s'.store_view.records ≡ s.store_view.records → s'.store_view.failed ≡ s.store_view.failed
     → s'.store_view.is_fresh ≡ s.store_view.is_fresh → LoadsRecord s (loaded answer) s'
 loads-found s s' found answer comes is records failed fresh = inr (
-  subst (λ o. ComesBack s.keys o (loaded answer) s.link s'.link) is comes,
+  subst (λ o. ComesBack o (loaded answer) s.link s'.link) is comes,
   asked s.store_view s'.store_view records failed fresh,
 )
 

@@ -13,9 +13,8 @@ use Rattle.ln_link.specs.Loading as loading
 use Rattle.ln_link.specs.Saving.{AnswersOver, AnswersCommand, CannotTell}
 use Rattle.ln_node_loops.specs.Act.{Act, Handles, Obeys, Connects, Drops, Loads}
 
--- a link with its store, and the keys with which it comes back
+-- a link with its store
 pub record Saved (K : Type 0) : Type 0 where
-  pub keys : K
   pub link : State K
   pub store_view : StoreView
 
@@ -25,10 +24,10 @@ record_in rs None = None
 record_in rs (Some channel) = map.get rs channel
 
 -- 40 where there is no record; else what is loaded of it, or why it can't be, and then the link is as it was
-abbrev pub ComesBack : {K : Type 0} → K → Option (List ℕ) → Result (List Output) Refusal → State K → State K → Type 0
-ComesBack keys None said l l' = (said ≡ Err refusal.NotReady) × (l' ≡ l)
-ComesBack keys (Some bytes) (Ok os) l l' = (os ≡ []) × loading.Loads keys (record_at bytes) (Ok l')
-ComesBack keys (Some bytes) (Err e) l l' = loading.Loads keys (record_at bytes) (Err e) × (l' ≡ l)
+abbrev pub ComesBack : {K : Type 0} → Option (List ℕ) → Result (List Output) Refusal → State K → State K → Type 0
+ComesBack None said l l' = (said ≡ Err refusal.NotReady) × (l' ≡ l)
+ComesBack (Some bytes) (Ok os) l l' = (os ≡ []) × loading.Loads l.keys (record_at bytes) (Ok l')
+ComesBack (Some bytes) (Err e) l l' = loading.Loads l.keys (record_at bytes) (Err e) × (l' ≡ l)
 
 -- the store can't tell what record there is: the link is as it was, and no record has changed
 pub record IsUntold {K : Type 0} (said : Result (List Output) Refusal) (s s' : Saved K) : Type 0 where
@@ -41,22 +40,18 @@ pub record IsUntold {K : Type 0} (said : Result (List Output) Refusal) (s s' : S
 abbrev pub LoadsRecord : {K : Type 0} → Saved K → Result (List Output) Refusal → Saved K → Type 0
 LoadsRecord s said s' =
     IsUntold said s s'
-    ⊎ (ComesBack s.keys (record_in s.store_view.records (kept_channel s.link.stage)) said s.link s'.link
+    ⊎ (ComesBack (record_in s.store_view.records (kept_channel s.link.stage)) said s.link s'.link
     × (s'.store_view ≡ s.store_view))
 
 module _ {K : Type 0} (signer : K → Signer) where
   -- an act may be answered so, and leave the link and its store so
-  abbrev pub Does : Saved K → Act → Result (List Output) Refusal → Saved K → Type 0
-  Does s (Handles m) said s' =
+  unfoldable pub acts : Saved K → Act → Result (List Output) Refusal → Saved K → Type 0
+  acts s (Handles m) said s' =
       AnswersOver (λ os. os) (signer s.link.keys) s.link m said s'.link s.store_view s'.store_view
-  Does s (Obeys c) said s' =
+  acts s (Obeys c) said s' =
       AnswersCommand (λ os. os) (commanded (signer s.link.keys) s.link c) s.link c said s'.link s.store_view
       s'.store_view
-  Does s Connects said s' =
+  acts s Connects said s' =
       Answered (λ os. os) (connected (signer s.link.keys) s.link) s.link said s'.link × (s'.store_view ≡ s.store_view)
-  Does s Drops said s' = (s'.link ≡ drops s.link) × (s'.store_view ≡ s.store_view)
-  Does s Loads said s' = LoadsRecord s said s'
-
-  -- and the keys with which it comes back stay
-  unfoldable pub acts : Saved K → Act → Result (List Output) Refusal → Saved K → Type 0
-  acts s a said s' = (s'.keys ≡ s.keys) × Does s a said s'
+  acts s Drops said s' = (s'.link ≡ drops s.link) × (s'.store_view ≡ s.store_view)
+  acts s Loads said s' = LoadsRecord s said s'

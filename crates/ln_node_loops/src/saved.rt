@@ -20,11 +20,9 @@ use ln_refusals::Refusal;
 use ln_store::RecordStore;
 use std::alloc::Global;
 
-/// A link with the store that it saves in, and the keys with which it comes back from its record.
+/// A link with the store that it saves in.
 #[derive(Drop)]
-pub struct SavedLink<K: ChannelKeys + Copy, S: Drop> {
-    /// The keys.
-    pub keys: K,
+pub struct SavedLink<K: ChannelKeys + Drop, S: Drop> {
     /// The link.
     pub link: Link<K>,
     /// The store.
@@ -50,35 +48,21 @@ fn record_in<S: RecordStore>(
     }
 }
 
-// A value in the place of another.
-fn replace<T: Drop>(place: &mut T, value: T)
-    ensures { place.new ≡ value }
-{
-    *place = value;
-}
-
 // The link that this record tells, in the place of one.
-fn come_back<K: ChannelKeys + Copy>(
+fn come_back<K: ChannelKeys + Drop>(
     alloc: Global,
-    keys: K,
     found: Option<Bytes>,
     link: &mut Link<K>,
 ) -> Result<(), Refusal>
-    ensures { ComesBack keys found (loaded result) link.old link.new }
+    ensures { ComesBack found (loaded result) link.old link.new }
 {
     match found {
         None => Err(Refusal::NotReady),
-        Some(bytes) => match Link::from_record(alloc, keys, bytes.as_slice()) {
-            Ok(loaded) => {
-                replace(link, loaded);
-                Ok(())
-            }
-            Err(refusal) => Err(refusal),
-        },
+        Some(bytes) => link.reload(alloc, bytes.as_slice()),
     }
 }
 
-impl<K: ChannelKeys + Copy, S: RecordStore + Drop> SavedLink<K, S> {
+impl<K: ChannelKeys + Drop, S: RecordStore + Drop> SavedLink<K, S> {
     // The channel of its saved opening.
     fn id(&self) -> Option<ChannelId>
         ensures { result ≡ kept_channel self.now.link.stage }
@@ -90,7 +74,7 @@ impl<K: ChannelKeys + Copy, S: RecordStore + Drop> SavedLink<K, S> {
     }
 }
 
-impl<K: ChannelKeys + Copy, S: RecordStore + Drop> End for SavedLink<K, S> {
+impl<K: ChannelKeys + Drop, S: RecordStore + Drop> End for SavedLink<K, S> {
     ghost use Rattle.ln_channel.specs.Pending.{pending_at};
     ghost use Rattle.ln_book.specs.Seen.{seen_of};
     ghost use Rattle.ln_node_loops.specs.Saved.{Saved, acts};
@@ -99,7 +83,6 @@ impl<K: ChannelKeys + Copy, S: RecordStore + Drop> End for SavedLink<K, S> {
     ghost State = { Saved K };
 
     ghost state = { λ s. record {
-      keys = s.keys;
       link = s.link;
       store_view = S.store_view s.store;
     } };
@@ -133,7 +116,7 @@ impl<K: ChannelKeys + Copy, S: RecordStore + Drop> End for SavedLink<K, S> {
     fn load(&mut self, alloc: Global) -> Result<(), Refusal> {
         let id = self.id();
         match record_in(alloc, &mut self.store, id) {
-            Ok(found) => come_back(alloc, self.keys, found, &mut self.link),
+            Ok(found) => come_back(alloc, found, &mut self.link),
             Err(refusal) => Err(refusal),
         }
     }

@@ -49,7 +49,6 @@ fn new_end(
     boxed(
         alloc,
         SavedLink {
-            keys,
             link: Link::funder(keys, spec),
             store: MemoryStore::new(alloc),
         },

@@ -74,7 +74,7 @@ pub(crate) fn listen<K, R>(
     keys: K,
 ) -> Result<SocketAddr, Refusal>
 where
-    K: ChannelKeys + Copy + Send + 'static,
+    K: ChannelKeys + Drop + Send + 'static,
     R: Net<Listener = TcpListener, Stream = TcpStream> + Threads + Wait + Copy + Send + 'static,
 {
     let config = fit_config(alloc)?;
@@ -130,7 +130,7 @@ pub(crate) fn register<K, R>(
     hook: Hook,
 ) -> Result<(), Refusal>
 where
-    K: ChannelKeys + Copy + Send + 'static,
+    K: ChannelKeys + Drop + Send + 'static,
     R: Wait,
 {
     match node.register_hook(rt, channel, hook) {
@@ -145,7 +145,7 @@ where
 /// Stops a node. The checker shows here that hooks and tables may go to other threads: in a long function it gives up.
 pub(crate) fn stopped<K, R>(rt: R, node: KeyedNode<K>)
 where
-    K: ChannelKeys + Copy + Send + 'static,
+    K: ChannelKeys + Drop + Send + 'static,
     R: Net<Listener = TcpListener, Stream = TcpStream> + Threads + Wait + Copy + Send + 'static,
 {
     node.stop(rt);

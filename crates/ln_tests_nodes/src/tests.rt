@@ -87,7 +87,7 @@ fn both<T: Drop>(
 // A node that listens twice, and where.
 fn listens<K, R>(rt: R, alloc: Global, keys: [K; 2]) -> io::Result<(KeyedNode<K>, [SocketAddr; 2])>
 where
-    K: ChannelKeys + Copy + Send + 'static,
+    K: ChannelKeys + Drop + Send + 'static,
     R: Net<Listener = TcpListener, Stream = TcpStream> + Threads + Wait + Copy + Send + 'static,
 {
     let Ok(greeting) = Greeting::usual(alloc) else {
@@ -268,20 +268,21 @@ fn hooks_run_beside(rt: HostRuntime) -> io::Result<()> {
     Ok(())
 }
 
-/// Keys that wait, as they sign commitment 1, for the other channel's to do so.
-#[derive(Clone, Copy)]
+/// Keys that wait, as they sign commitment 1, for the other channel's to do so. They aren't `Copy`.
+#[derive(Drop)]
 struct WaitingKeys {
     toy: ToyKeys,
-    flags: &'static Flags,
+    flags: Arc<Flags>,
     is_first: bool,
 }
 
-fn waiting(toy: ToyKeys, flags: &'static Flags, is_first: bool) -> WaitingKeys {
-    WaitingKeys {
+fn waiting(toy: ToyKeys, flags: &Arc<Flags>, is_first: bool) -> io::Result<WaitingKeys> {
+    let flags = Arc::try_clone(flags)?;
+    Ok(WaitingKeys {
         toy,
         flags,
         is_first,
-    }
+    })
 }
 
 impl ChannelKeys for WaitingKeys {
@@ -352,9 +353,8 @@ impl Driven for KeyedNode<WaitingKeys> {
 fn workers_run_beside(rt: HostRuntime) -> io::Result<()> {
     let alloc = rt.alloc();
     let [_, toy, _, _] = KEYS;
-    let flags: &'static mut Flags = Box::leak(Box::new(alloc, Flags::new())?);
-    let flags: &'static Flags = flags;
-    let keys = [waiting(toy, flags, true), waiting(toy, flags, false)];
+    let flags = Arc::new(alloc, Flags::new())?;
+    let keys = [waiting(toy, &flags, true)?, waiting(toy, &flags, false)?];
     let (node, at) = listens(rt, alloc, keys)?;
     let told = Trial {
         rt: &rt,
@@ -362,7 +362,7 @@ fn workers_run_beside(rt: HostRuntime) -> io::Result<()> {
         node: &node,
         at,
     }
-    .workers_meet(flags);
+    .workers_meet(&flags);
     stopped(rt, node);
     assert_eq!(rt; told?, 2);
     Ok(())

@@ -4,7 +4,7 @@ use Rattle.ln_node.proofs.opening.NodeLinkEnd.connect.Goals as goal
 
 pub returns-in-Ok : goal.returns-in-Ok
 returns-in-Ok g c =
-    connected g.K.ChannelKeys.signer _ _ _ _ _ _ _
+    connected g.K.ChannelKeys.signer _ _ _ _ _ _
     (sym (rw c.deref.ensures at (c.is_unopened.ensures _ c.channel_machine.ensures)) ∙ c.if-is_unopened.true)
     (rw (c.deref-then-is_unopened.ensures, c.deref-then-is_unopened-2.ensures, c.deref_mut.ensures.value, c.in-Ok.is)
     at c.begin_anew.ensures) (
@@ -16,7 +16,7 @@ returns-in-Ok g c =
 pub returns-in-Err : goal.returns-in-Err
 returns-in-Err g c =
     rw c.deref_mut.ensures.value
-    (refused g.K.ChannelKeys.signer _ _ _ _ _ _
+    (refused g.K.ChannelKeys.signer _ _ _ _ _
     (sym (rw c.deref.ensures at (c.is_unopened.ensures _ c.channel_machine.ensures)) ∙ c.if-is_unopened.true)
     (rw (c.deref-then-is_unopened.ensures, c.deref-then-is_unopened-2.ensures, c.deref_mut.ensures.value, c.in-Err.is)
     at c.begin_anew.ensures))

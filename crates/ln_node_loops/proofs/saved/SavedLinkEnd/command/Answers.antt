@@ -5,4 +5,4 @@ use Rattle.ln_node_loops.proofs.saved.SavedLinkEnd.command.Goals as goal
 
 pub returns : goal.returns
 unfolding acts
-returns g c = (refl, command-listed (λ v. v.items) _ _ _ _ _ c.args.command _ (c.command.ensures.answers _ refl))
+returns g c = command-listed (λ v. v.items) _ _ _ _ _ c.args.command _ (c.command.ensures.answers _ refl)

@@ -5,4 +5,4 @@ use Rattle.ln_node_loops.proofs.saved.SavedLinkEnd.connect.Goals as goal
 
 pub returns : goal.returns
 unfolding acts
-returns g c = (refl, (connection-listed (λ v. v.items) _ _ _ _ (c.connect.ensures.answers _ refl), refl))
+returns g c = (connection-listed (λ v. v.items) _ _ _ _ (c.connect.ensures.answers _ refl), refl)

@@ -4,4 +4,4 @@ use Rattle.ln_node_loops.proofs.saved.SavedLinkEnd.drop_connection.Goals as goal
 
 pub returns : goal.returns
 unfolding acts
-returns g c = (refl, (c.drop_connection.ensures.state _ refl, refl))
+returns g c = (c.drop_connection.ensures.state _ refl, refl)
