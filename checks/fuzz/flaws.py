@@ -18,6 +18,7 @@ hook END hold 64
 dispatch END
 down END
 restart NODE
+reload END
 up CHANNEL
 confirm END ID
 add END 64 32 PAYMENT

@@ -737,6 +737,14 @@ class World:
             it.halted, it.dispatcher = False, Dispatcher(it.decided)
         self.book(name).rebuild([it.reading() for it in ends])
 
+    def reload(self, it):
+        """An end that has halted comes back from its record, beside its node's book, which goes on."""
+        if not it.halted:
+            self.report.append("idle")
+            return
+        it.halted = False
+        self.down(it)
+
     # ---- stops, and want of memory
 
     def stop_before(self, place, act):
@@ -984,7 +992,7 @@ def step_of(line):
         confirm = Command("confirm", short_id(words[5]))
         return lambda w: [w.open(c, x, y, s, p)] + [w.act((n, c), confirm) for n in (x, y)] + [
             w.act((n, c), Deliver) for n in (y, x)]
-    if word in ("down", "dispatch") and len(words) == 1:
+    if word in ("down", "reload", "dispatch") and len(words) == 1:
         e = end(words[0])
         return lambda w: w.at(e, getattr(w, word))
     if word == "hook" and len(words) >= 2:

@@ -24,6 +24,7 @@ as_brought (step.Do e a) h = h
 as_brought (step.Down e) h = tt
 as_brought (step.NoMemory e a) h = tt
 as_brought (step.Restart n) h = tt
+as_brought (step.Reload e) h = tt
 as_brought (step.StopBefore e a) h = tt
 as_brought (step.StopAfter e a) h = h
 as_brought (step.Up n) h = tt

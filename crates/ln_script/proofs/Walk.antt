@@ -17,7 +17,8 @@ use Rattle.ln_script.specs.Word.{◌>>=◌, decimal_at, number_at, node_at, end_
 use Rattle.ln_script.specs.Keys.{toy}
 use Rattle.ln_script.specs.Command.{command_at}
 use Rattle.ln_script.specs.Step.{ToyStep, fees_if, fees_at, limits_at, fees_line, limits_line, setting_at, set_line}
-use Rattle.ln_script.specs.Step.{opening_at, open_line, up_line, down_line, restart_line, end_line, command_line}
+use Rattle.ln_script.specs.Step.{opening_at, open_line, up_line, down_line, restart_line, reload_line, end_line}
+use Rattle.ln_script.specs.Step.{command_line}
 use Rattle.ln_script.specs.declared.step.Doing.{Doing}
 use Rattle.ln_script.specs.declared.step.Round.{Round}
 use Rattle.ln_script.specs.declared.step.Round.TheVariants as round
@@ -80,6 +81,7 @@ pub record IsOfEachKind (P : ToyStep → Type 0) : Type 0 where
   pub up : (channel : ℕ) → P (step.Up channel)
   pub down : (end : End) → P (step.Down end)
   pub restarts : (node : Node) → P (step.Restart node)
+  pub reloads : (end : End) → P (step.Reload end)
   pub policies : (node : Node) (b p d : List ℕ) → Has P (policy_at node b p d)
   pub heights : (node : Node) (h : List ℕ)
       → Has P (number_at 400000000 h >>= (λ height. let it : Option ToyStep = Some (step.Height node height) in it))
@@ -174,6 +176,11 @@ module _ (P : ToyStep → Type 0) (kinds : IsOfEachKind P) where
   restart_lines (x ∷ []) = then P (node_at x) _ (λ node. kinds.restarts node)
   restart_lines (x ∷ w ∷ ws) = tt
 
+  reload_lines : (ws : List (List ℕ)) → Has P (reload_line ws)
+  reload_lines [] = tt
+  reload_lines (e ∷ []) = then P (end_at e) _ (λ end. kinds.reloads end)
+  reload_lines (e ∷ w ∷ ws) = tt
+
   dispatch_lines : (ws : List (List ℕ)) → Has P (dispatch_line ws)
   dispatch_lines [] = tt
   dispatch_lines (e ∷ []) = then P (end_at e) _ (λ end. kinds.dispatches end)
@@ -248,9 +255,10 @@ module _ (P : ToyStep → Type 0) (kinds : IsOfEachKind P) where
       (either P (bytes_eq w (codes "up")) _ _ (up_lines ws)
       (either P (bytes_eq w (codes "down")) _ _ (down_lines ws)
       (either P (bytes_eq w (codes "restart")) _ _ (restart_lines ws)
+      (either P (bytes_eq w (codes "reload")) _ _ (reload_lines ws)
       (either P (bytes_eq w (codes "stop-before")) _ _ (round_lines round.StopBefore ws)
       (either P (bytes_eq w (codes "stop-after")) _ _ (round_lines round.StopAfter ws)
-      (either P (bytes_eq w (codes "no-memory")) _ _ (round_lines round.NoMemory ws) (other w ws hook))))))))
+      (either P (bytes_eq w (codes "no-memory")) _ _ (round_lines round.NoMemory ws) (other w ws hook)))))))))
 
   -- ---- lines
 
@@ -339,6 +347,7 @@ module _ (P : ToyStep → Type 0) (kinds : IsOfEachKind P)
   placed n (step.Down e ∷ ss) h = (h.0, placed n ss h.1)
   placed n (step.NoMemory e a ∷ ss) h = (h.0, placed n ss h.1)
   placed n (step.Restart x ∷ ss) h = (h.0, placed n ss h.1)
+  placed n (step.Reload e ∷ ss) h = (h.0, placed n ss h.1)
   placed n (step.StopBefore e a ∷ ss) h = (h.0, placed n ss h.1)
   placed n (step.StopAfter e a ∷ ss) h = (h.0, placed n ss h.1)
   placed n (step.Up c ∷ ss) h = (h.0, placed n ss h.1)

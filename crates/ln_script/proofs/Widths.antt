@@ -298,6 +298,7 @@ all_wide = record {
   up = λ channel. tt;
   down = λ end. tt;
   restarts = λ node. tt;
+  reloads = λ end. tt;
   dispatches = λ end. tt;
   delivers = λ end. (tt, (tt, (tt, tt)));
   takes = λ end. (tt, (tt, (tt, tt)));

@@ -112,9 +112,10 @@ step_wants w ws =
     if bytes_eq w (codes "up") then Some (want.Channel ∷ [])
     else (if bytes_eq w (codes "down") then Some (want.End ∷ [])
     else (if bytes_eq w (codes "restart") then Some (want.Node ∷ [])
+    else (if bytes_eq w (codes "reload") then Some (want.End ∷ [])
     else (if bytes_eq w (codes "height") then Some (want.Node ∷ want.Height ∷ [])
     else (if bytes_eq w (codes "expect") then Some (want.Node ∷ want.Payment ∷ want.Number64 ∷ [])
-    else (if bytes_eq w (codes "dispatch") then Some (want.End ∷ []) else act_wants w ws)))))
+    else (if bytes_eq w (codes "dispatch") then Some (want.End ∷ []) else act_wants w ws))))))
 
 unfoldable pub line_wants : List ℕ → List (List ℕ) → Option (List Want)
 line_wants w ws =

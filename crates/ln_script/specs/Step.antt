@@ -169,6 +169,13 @@ restart_line (x ∷ []) = do
   Some (step.Restart node)
 restart_line _ = None
 
+-- reload E
+abbrev pub reload_line : List (List ℕ) → Option ToyStep
+reload_line (e ∷ []) = do
+  end ← end_at e
+  Some (step.Reload end)
+reload_line _ = None
+
 -- dispatch E
 abbrev pub dispatch_line : List (List ℕ) → Option ToyStep
 dispatch_line (e ∷ []) = do
@@ -266,9 +273,10 @@ step_at w ws =
     else (if bytes_eq w (codes "up") then up_line ws
     else (if bytes_eq w (codes "down") then down_line ws
     else (if bytes_eq w (codes "restart") then restart_line ws
+    else (if bytes_eq w (codes "reload") then reload_line ws
     else (if bytes_eq w (codes "stop-before") then round_line round.StopBefore ws
     else (if bytes_eq w (codes "stop-after") then round_line round.StopAfter ws
-    else (if bytes_eq w (codes "no-memory") then round_line round.NoMemory ws else other_step_at w ws)))))))
+    else (if bytes_eq w (codes "no-memory") then round_line round.NoMemory ws else other_step_at w ws))))))))
 
 -- ---- the steps of a line
 

@@ -4,7 +4,7 @@ ghost use Rattle.std.specs.Prelude.{◌≡◌, ◌++◌, IfOk, IfErr, OnOk};
 ghost use Rattle.ln_refusals.specs.declared.refusal.Refusal.TheVariants as refusal;
 ghost use Rattle.ln_script.specs.Step.{texts, fees_line, limits_line, policy_line, setting_at, set_line, height_line};
 ghost use Rattle.ln_script.specs.Step.{invoice_of, expect_line, dispatch_line, register_line, other_step_at};
-ghost use Rattle.ln_script.specs.Step.{opening_at, open_line, up_line, down_line, restart_line, end_line};
+ghost use Rattle.ln_script.specs.Step.{opening_at, open_line, up_line, down_line, restart_line, reload_line, end_line};
 ghost use Rattle.ln_script.specs.Step.{command_line, act_line, do_line, round_line};
 ghost use Rattle.ln_script.specs.Step.{step_at, confirms, delivers, ready_steps, ready_line, one_step};
 ghost use Rattle.ln_script.specs.Step.{word_line, steps_at, if_good, joined, goes_on_at, fails_at, said_at};
@@ -225,6 +225,16 @@ fn restart_line(words: &[&str]) -> Option<Step<ToyKeys>>
     }
 }
 
+/// reload E
+fn reload_line(words: &[&str]) -> Option<Step<ToyKeys>>
+    ensures { result ≡ reload_line (texts words.now) }
+{
+    match words {
+        [end] => Some(Step::Reload(end_of(end)?)),
+        _ => None,
+    }
+}
+
 /// dispatch E
 fn dispatch_line(words: &[&str]) -> Option<Step<ToyKeys>>
     ensures { result ≡ dispatch_line (texts words.now) }
@@ -420,6 +430,7 @@ fn step_of(alloc: Global, word: &str, words: &[&str]) -> Result<Option<Step<ToyK
         "up" => Ok(up_line(words)),
         "down" => Ok(down_line(words)),
         "restart" => Ok(restart_line(words)),
+        "reload" => Ok(reload_line(words)),
         "stop-before" => round_line(alloc, Round::StopBefore, words),
         "stop-after" => round_line(alloc, Round::StopAfter, words),
         "no-memory" => round_line(alloc, Round::NoMemory, words),

@@ -112,6 +112,7 @@ fn step_wants(word: &str, words: &[&str]) -> Option<&'static [Want]>
         "up" => Some(&[Want::Channel]),
         "down" => Some(&[Want::End]),
         "restart" => Some(&[Want::Node]),
+        "reload" => Some(&[Want::End]),
         "height" => Some(&[Want::Node, Want::Height]),
         "expect" => Some(&[Want::Node, Want::Payment, Want::Number64]),
         "dispatch" => Some(&[Want::End]),

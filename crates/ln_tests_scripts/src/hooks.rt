@@ -169,6 +169,30 @@ fn hooks_are_called(rt: HostRuntime) {
     assert_eq!(rt; are_shown(rt.alloc(), &parts, &told), Ok(true));
 }
 
+// An end that halts and reloads keeps its dispatcher, which goes on behind the last event that it served.
+#[test]
+fn hooks_stay_over_a_reload(rt: HostRuntime) {
+    let parts = [
+        Lines("ready 0 A B 1000000 0 1x1x0\n"),
+        Register(B0, 0),
+        Lines(TWO_ADDS),
+        Dispatch(B0),
+        Lines("no-memory sign B0\nreload B0\n"),
+        Register(B0, 0),
+        Dispatch(B0),
+        Lines("reload B0\n"),
+    ];
+    let told = [
+        Line::Dispatched(B0, 0, UNKNOWN),
+        // the hook is there still
+        Line::Idle,
+        Line::Dispatched(B0, 1, CONTINUE),
+        // the end hasn't halted
+        Line::Idle,
+    ];
+    assert_eq!(rt; are_shown(rt.alloc(), &parts, &told), Ok(true));
+}
+
 // After the event that its channel is closed a dispatcher serves none, over restarts too.
 #[test]
 fn the_close_is_last(rt: HostRuntime) {

@@ -16,6 +16,7 @@ use Rattle.ln_channel.specs.Ledger.{Ledger, first_htlc, forgotten}
 use Rattle.ln_channel.specs.Record.{saved_end}
 use Rattle.ln_channel.specs.State.{State}
 use Rattle.ln_channel.specs.Step.{Done}
+use Rattle.ln_book_tables.specs.declared.htlc.Htlc.{Htlc}
 use Rattle.ln_book_tables.specs.Replay.{table_of}
 use Rattle.ln_world_channels.specs.declared.line.Line.{Line}
 use Rattle.ln_world_channels.specs.declared.step.Act.{Act as ChannelAct}
@@ -41,25 +42,28 @@ use Rattle.ln_world.specs.World.{saved_of}
 use Rattle.ln_payment_circuits.specs.Shift.{Shift, Stays, Takes, Proposes, Signs, Accepts, Learns, Closes, Notes}
 use Rattle.ln_payment_circuits.specs.Shift.{IsPlain}
 use Rattle.ln_payment_circuits.specs.Shift.{IsPlainUpdate}
-use Rattle.ln_payment_circuits.specs.Snapshot.{IsIn}
+use Rattle.ln_payment_circuits.specs.Snapshot.{Incoming, IsIn}
+use Rattle.ln_payment_circuits.proofs.Links.{Links}
 use Rattle.ln_payment_circuits.proofs.Tidy.{decides_so, resumes_so}
 use Rattle.ln_payment_circuits.proofs.Shifts.{side_of as read_side}
 use Rattle.ln_payment_circuits.proofs.Scenes.{HavePayments}
 use Rattle.ln_payment_circuits.proofs.Resumed.{HoldAlike}
+use Rattle.ln_payment_circuits.proofs.Past.{IsPast, IsOffer, WasOffer, past_on}
 use Rattle.ln_world.specs.Circuit.{has_halted}
 use Rattle.ln_world.proofs.Answering.{RowSteps}
 use Rattle.ln_world.proofs.Moving.{row_of}
 use Rattle.ln_world.proofs.Scene.{link_in, links_of, scene_of, same_number, elsewhere, either}
-use Rattle.ln_world.proofs.Same.{IsSame, same_paid, same_agrees}
+use Rattle.ln_world.proofs.Same.{IsSame, same_paid, same_agrees, same_past}
 use Rattle.ln_world.proofs.PendingCommands.{IsCalm, calm_alike}
 use Rattle.ln_world.proofs.Keeping.{Holds}
 use Rattle.ln_world.proofs.Lost.{place, link_is, side_is}
 use Rattle.ln_world.proofs.Books.{own_book, follow_alike, itself, IsAlike}
-use Rattle.ln_world.proofs.Anew.{AreSmall}
-use Rattle.ln_world.proofs.Restarts.{small_all}
+use Rattle.ln_world.proofs.Anew.{AreSmall, small_all}
 use Rattle.ln_world.proofs.Doing.{Turns, turns, new}
 use Rattle.ln_world.proofs.Wells.{book_in}
-use Rattle.ln_world.proofs.Orderly.{IsOrderly, view_at, order_at, OneLater, AllName, Names, stays_later}
+use Rattle.ln_world.proofs.Orderly.{IsOrderly, view_at, order_at, OneLater, AllName, Names, stays_later, Any}
+use Rattle.ln_world.proofs.Orderly.{later_same}
+use Rattle.ln_world.proofs.Orderly.{later_as, dispatchers_stay}
 use Rattle.ln_world.proofs.Orderly.{ends_later}
 use Rattle.ln_world.proofs.Orderly.{names_more}
 
@@ -115,6 +119,11 @@ shift_names x f (Accepts l g) n h = subst (λ (m : Log). AllName m.own) (sym l) 
 shift_names x f (Learns l g) n h = subst (λ (m : Log). AllName m.own) (sym l) h
 shift_names x f (Closes l g) n h = subst (λ (m : Log). AllName m.own) (sym l) h
 shift_names x f (Notes c l g) n h = subst (λ (m : Log). AllName m.own) (sym l) h
+
+-- what goes out by links that have halted went out before
+abbrev pub OffersAwake : Links → List Htlc → List Htlc → Type 0
+OffersAwake l xs ys = (h : Incoming) (c i : ℕ) (y : Htlc) → l.halted c ≡ true → IsOffer channel_id_of ys h c i y
+    → WasOffer channel_id_of xs h c i
 
 -- an add that forwards none
 plain_name : (u : Update) → IsPlainUpdate u → AllName (u ∷ [])
@@ -225,7 +234,7 @@ module _ {K : Type 0} (k : Ghosts K) (e : End) (v : Verdict) (w : World K) where
           (elsewhere k.signer n e.channel (act_moves n a) d isnt cs)
       | inl it ↦ subst (λ j. OneLater (link_in n j cs) (link_in n j ds)) (sym (eqb-true d e.channel it))
           (ends_later (link_in n e.channel cs) (link_in n e.channel ds) x y x_saved turn.saved
-          (λ h. turn.changed.halted e.channel ∙ h) (counted row turn.steps) names)
+          (counted row turn.steps) names)
     ]
       where
         counted : (r : Result Done Refusal) → RowSteps x y r → x.ledger.decided ≤ y.ledger.decided
@@ -240,8 +249,9 @@ module _ {K : Type 0} (k : Ghosts K) (e : End) (v : Verdict) (w : World K) where
         → IsAlike b (book_in n u) → AreSmall cs → IsCalm b
         → HavePayments channel_id_of (record { links = links_of n ds; book = (table_of b).htlcs })
         → HoldAlike channel_id_of (record { links = links_of n ds; book = (table_of b).htlcs })
+        → IsPast channel_id_of (record { links = links_of n ds; book = (table_of b).htlcs })
         → IsOrderly (view_at n ds w.dispatchers.dispatchers b) → Holds k n u
-    concludes u channels dispatchers b alike small calm paid agrees order =
+    concludes u channels dispatchers b alike small calm paid agrees past order =
         let same : IsSame (record { links = links_of n ds; book = (table_of b).htlcs }) (scene_of n u) = record {
           sides = λ d. ap (λ zs. (links_of n zs).sides d) channels;
           halted = λ d. ap (λ zs. (links_of n zs).halted d) channels;
@@ -258,12 +268,15 @@ module _ {K : Type 0} (k : Ghosts K) (e : End) (v : Verdict) (w : World K) where
             agrees =
                 same_agrees channel_id_of (record { links = links_of n ds; book = (table_of b).htlcs }) (scene_of n u)
                 same agrees;
+            past = same_past channel_id_of (record { links = links_of n ds; book = (table_of b).htlcs })
+                (scene_of n u) same past;
           };
           order = subst (λ zs. IsOrderly (view_at n zs u.dispatchers.dispatchers (book_in n u))) (sym channels)
               (subst (λ es. IsOrderly (view_at n ds es (book_in n u))) (sym dispatchers)
               (order_at n ds ds w.dispatchers.dispatchers w.dispatchers.dispatchers b (book_in n u)
               (λ c. stays_later (link_in n c ds) (link_in n c ds) refl) (λ q m. subst (IsIn q) alike.queue m)
-              (λ z m. (z, subst (IsIn z) alike.htlcs m, refl, refl)) (λ c i is. is) order));
+              (later_as Any (table_of b).htlcs (table_of b).htlcs (table_of (book_in n u)).htlcs alike.htlcs
+              (later_same Any (table_of b).htlcs)) (dispatchers_stay n w.dispatchers.dispatchers) order));
         }
 
     -- one that hasn't halted
@@ -282,6 +295,34 @@ module _ {K : Type 0} (k : Ghosts K) (e : End) (v : Verdict) (w : World K) where
           ∙ ap (λ z. Some (read_side z)) same
           ∙ sym side_was ∙ sym (ap (links_of n cs).sides (eqb-true d e.channel it))
     ]
+
+    -- a link that has halted stays as it is
+    halted_stays : ((d : Done) → row ≡ Ok d → s.halted ≡ false) → (d : ℕ) → (links_of n ds).halted d ≡ true
+        → ((links_of n cs).halted d ≡ true) × ((links_of n ds).sides d ≡ (links_of n cs).sides d)
+    halted_stays awake d halted = (
+      was,
+      elim (either (d == e.channel)) [
+        | inr isnt ↦ turn.changed.others d isnt
+        | inl it ↦ by_row row refl turn.steps (sym (ap has_halted there)
+            ∙ sym (ap (links_of n cs).halted (eqb-true d e.channel it)) ∙ was)
+      ],
+    )
+      where
+        was : (links_of n cs).halted d ≡ true
+        was = sym (turn.changed.halted d) ∙ halted
+
+        by_row : (r : Result Done Refusal) → row ≡ r → RowSteps x y r → s.halted ≡ true
+            → (links_of n ds).sides d ≡ (links_of n cs).sides d
+        by_row (Err r) is same it = refused_sides same d
+        by_row (Ok q) is steps it = absurd (let no : true ≡ false = sym it ∙ awake q is in cc)
+
+    -- by what the book offers
+    pub past_now : ((d : Done) → row ≡ Ok d → s.halted ≡ false) → (xs ys : List Htlc) → OffersAwake (links_of n ds) xs
+        ys
+        → IsPast channel_id_of (record { links = links_of n cs; book = xs })
+        → IsPast channel_id_of (record { links = links_of n ds; book = ys })
+    past_now awake xs ys offers past = past_on channel_id_of (record { links = links_of n cs; book = xs })
+        (record { links = links_of n ds; book = ys }) (halted_stays awake) offers past
 
     pub refused_later : y ≡ x → (d : ℕ) → OneLater (link_in n d cs) (link_in n d ds)
     refused_later same = act_later (λ h. subst (λ (z : ChannelEnd). AllName z.dance.log.own) (sym same) h)

@@ -159,6 +159,12 @@ module _ {K : Type 0} (n : Node) (cs : List (WorldChannel K)) where
 abbrev pub AreSmall : {K : Type 0} → List (WorldChannel K) → Type 0
 AreSmall cs = Each (λ c. c.number < 256) cs
 
+-- numbers stay
+pub small_all : {K : Type 0} (f : WorldChannel K → WorldChannel K) → ((c : WorldChannel K) → (f c).number ≡ c.number)
+    → (cs : List (WorldChannel K)) → AreSmall cs → AreSmall (map f cs)
+small_all f same [] h = tt
+small_all f same (c ∷ cs) h = (subst (λ k. k < 256) (sym (same c)) h.0, small_all f same cs h.1)
+
 module _ {K : Type 0} (signer : K → Signer) (n : Node) (cs : List (WorldChannel K)) (open_ : Each (IsOpen signer) cs)
     (small : AreSmall cs)
     (signed : (c : ℕ) (e : ChannelEnd) → saved_of (link_in n c cs) ≡ Some e

@@ -11,7 +11,6 @@ use Rattle.ln_keys.specs.declared.keys.ChannelKeys.{Ghosts}
 use Rattle.ln_keys.specs.declared.role.Role.{Role}
 use Rattle.ln_keys.specs.declared.role.Role.TheVariants.{Funder, Fundee}
 use Rattle.ln_hooks.specs.declared.event.ChannelEvent.{ChannelEvent}
-use Rattle.ln_hooks.specs.declared.event.ChannelEvent.TheVariants as event
 use Rattle.ln_hooks.specs.declared.verdict.Verdict.{Verdict}
 use Rattle.ln_log.specs.declared.mark.EventRef.{EventRef}
 use Rattle.ln_channel.specs.Ledger.{first_htlc}
@@ -47,6 +46,7 @@ use Rattle.ln_world.specs.Promises.{events_of, channel_steps}
 use Rattle.ln_world.proofs.Plains.{ran, ran_channels}
 use Rattle.ln_world.proofs.Scene.{link_in, either}
 use Rattle.ln_world.proofs.Lost.{Place, place}
+use Rattle.ln_world.proofs.Orderly.{offer_in, told_by}
 
 -- a world that steps have led to
 pub record Ran {K : Type 0} (k : Ghosts K) (w : World K) : Type 0 where
@@ -184,7 +184,7 @@ each_dispatcher P e (x ∷ ds) d h at = cases (is_at e x) refl at (λ r. each_di
 
 -- ---- the event that it has served
 
-item_front : {A : Type 0} (n : ℕ) (xs ys : List A) (x : A) → item n xs ≡ Some x → item n (xs ++ ys) ≡ Some x
+pub item_front : {A : Type 0} (n : ℕ) (xs ys : List A) (x : A) → item n xs ≡ Some x → item n (xs ++ ys) ≡ Some x
 item_front n [] ys x e = absurd (cc)
 item_front zero (y ∷ xs) ys x e = e
 item_front (suc n) (y ∷ xs) ys x e = item_front n xs ys x e
@@ -287,6 +287,7 @@ first_named x evs ev h is r rs und = cases (named_by r x) refl
 pub record IsWaiting (x : ChannelEnd) (ds : List Dispatcher) (e : End) (p : ℕ × ChannelEvent × Verdict) : Type 0 where
   pub number : p.0 ≡ x.ledger.decided
   pub below : is_below_next p.0 (dispatcher_at e ds) ≡ true
+  pub told : told_by p.0 (dispatcher_at e ds) ≡ offer_of p.1
   pub offers : (o : Offer) → offer_of p.1 ≡ Some o → first_htlc x.dance.log x.ledger.undecided ≡ Some o.id
 
 first_by : (x : ChannelEnd) (evs : List ChannelEvent) (ev : ChannelEvent) (o : Offer) → IsInStep evs x
@@ -337,11 +338,14 @@ module _ {K : Type 0} (k : Ghosts K) (w : World K) (r : Ran k w) (e : End) (s : 
     at_saved (stage.AwaitsSigned c) es f h = absurd h
     at_saved stage.Gone es f h = absurd h
 
-    of_dispatcher : (d : Dispatcher) → dispatcher_at e w.dispatchers.dispatchers ≡ Some d
-        → (q : ℕ × ChannelEvent × Verdict)
-        → waiting_of d.epoch (saved_in d.side (channel d.end.channel cs)) ≡ Some q
-        → IsWaiting x w.dispatchers.dispatchers e q
-    of_dispatcher d at q is =
+    -- the dispatcher of that end: what it has served, and what the end has told
+    record Serves (d : Dispatcher) : Type 0 where
+      stood : DispatcherStands (evs d) (decided_for d w.dispatchers.channels) d
+      end : saved_in d.side (channel d.end.channel cs) ≡ Some x
+      step : IsInStep (evs d) x
+
+    serves : (d : Dispatcher) → dispatcher_at e w.dispatchers.dispatchers ≡ Some d → Serves d
+    serves d at =
         let one = each_dispatcher (λ d. DispatcherStands (evs d)
         (decided_for d w.dispatchers.channels) d) e w.dispatchers.dispatchers d stands at in
         let side : d.side ≡ p.side = dispatcher_side e cs w.dispatchers.dispatchers aligned.pairs p.found p.is
@@ -349,32 +353,62 @@ module _ {K : Type 0} (k : Ghosts K) (w : World K) (r : Ran k w) (e : End) (s : 
         let found : channel d.end.channel cs ≡ Some p.found = ap (λ i. channel i cs) one.1 ∙ p.is in
         let mine : saved_end (place_of p.side p.found.both).link.stage ≡ Some x =
         ap (λ (z : State K). saved_end z.stage) (sym p.link) ∙ saved in
-        let saved_so : saved_in d.side (channel d.end.channel cs) ≡ Some x =
-        ap (saved_in d.side) found ∙ ap (λ z. saved_in z (Some p.found)) side ∙ mine in
-        let step : IsInStep (evs d) x = at_saved (place_of p.side p.found.both).link.stage (evs d) mine
-        (subst (λ z. AreInStep z (evs d) (Some p.found)) side
-        (subst (AreInStep d.side (evs d)) found (in_step d.end.channel d.side))) in
-        cases (served_in x.ledger.decided d.epoch) refl (sym (ap (waiting_of d.epoch) saved_so) ∙ is) one.0 step
+        record {
+          stood = one.0;
+          end = ap (saved_in d.side) found ∙ ap (λ z. saved_in z (Some p.found)) side ∙ mine;
+          step = at_saved (place_of p.side p.found.both).link.stage (evs d) mine
+              (subst (λ z. AreInStep z (evs d) (Some p.found)) side
+              (subst (AreInStep d.side (evs d)) found (in_step d.end.channel d.side)));
+        }
+
+    -- what it has served of the first event that the end hasn't decided
+    served_first : (d : Dispatcher) → Serves d → (y : ChannelEvent × Verdict)
+        → served_in x.ledger.decided d.epoch ≡ Some y → (o : Offer) → offer_of y.0 ≡ Some o
+        → first_htlc x.dance.log x.ledger.undecided ≡ Some o.id
+    served_first d s y f o is =
+        let numbered = of_number x.ledger.decided d.epoch y.0 (evs d) s.stood.epoch.follows
+        (served_so x.ledger.decided d.epoch y f) in
+        let below = item_below x.ledger.decided (evs d) y.0 numbered in
+        let all = s.step.all in
+        first_by x (evs d) y.0 o s.step numbered is x.ledger.undecided refl (omega (arith, below, all))
+
+    pub first_told : (o : Offer) → told_by x.ledger.decided (dispatcher_at e w.dispatchers.dispatchers) ≡ Some o
+        → first_htlc x.dance.log x.ledger.undecided ≡ Some o.id
+    first_told o is = cases (dispatcher_at e w.dispatchers.dispatchers) refl is
+      where
+        cases : (z : Option Dispatcher) → dispatcher_at e w.dispatchers.dispatchers ≡ z
+            → told_by x.ledger.decided z ≡ Some o → first_htlc x.dance.log x.ledger.undecided ≡ Some o.id
+        cases None at f = absurd (cc)
+        cases (Some d) at f = by (served_in x.ledger.decided d.epoch) refl f
+          where
+            by : (y : Option (ChannelEvent × Verdict)) → served_in x.ledger.decided d.epoch ≡ y
+                → offer_in y ≡ Some o → first_htlc x.dance.log x.ledger.undecided ≡ Some o.id
+            by None f g = absurd (cc)
+            by (Some y) f g = served_first d (serves d at) y f o g
+
+    of_dispatcher : (d : Dispatcher) → dispatcher_at e w.dispatchers.dispatchers ≡ Some d
+        → (q : ℕ × ChannelEvent × Verdict)
+        → waiting_of d.epoch (saved_in d.side (channel d.end.channel cs)) ≡ Some q
+        → IsWaiting x w.dispatchers.dispatchers e q
+    of_dispatcher d at q is =
+        let s = serves d at in
+        cases (served_in x.ledger.decided d.epoch) refl (sym (ap (waiting_of d.epoch) s.end) ∙ is) s
       where
         cases : (o : Option (ChannelEvent × Verdict)) → served_in x.ledger.decided d.epoch ≡ o
-            → option_map (λ p. (x.ledger.decided, p.0, p.1)) o ≡ Some q
-            → DispatcherStands (evs d) (decided_for d w.dispatchers.channels) d → IsInStep (evs d) x
+            → option_map (λ p. (x.ledger.decided, p.0, p.1)) o ≡ Some q → Serves d
             → IsWaiting x w.dispatchers.dispatchers e q
-        cases None f g st step = absurd (cc)
-        cases (Some y) f g st step =
+        cases None f g s = absurd (cc)
+        cases (Some y) f g s =
             let same : ◌≡◌ {A = ℕ × ChannelEvent × Verdict} (x.ledger.decided, y.0, y.1) q = cc in
-            let served = served_so x.ledger.decided d.epoch y f in
             let number : x.ledger.decided ≡ q.0 = ap (λ (z : ℕ × ChannelEvent × Verdict). z.0) same in
             let event_is : y.0 ≡ q.1 = ap (λ (z : ℕ × ChannelEvent × Verdict). z.1) same in
             record {
               number = sym number;
               below = ap (is_below_next q.0) at ∙ ap (λ i. nat_lt i (next d.epoch)) (sym number)
-                  ∙ below_next x.ledger.decided d.epoch y.0 served;
-              offers = λ o is. let numbered = of_number x.ledger.decided d.epoch y.0 (evs d) st.epoch.follows served in
-                  let below = item_below x.ledger.decided (evs d) y.0 numbered in
-                  let all = step.all in
-                  first_by x (evs d) y.0 o step numbered (ap offer_of event_is ∙ is) x.ledger.undecided refl
-                  (omega (arith, below, all));
+                  ∙ below_next x.ledger.decided d.epoch y.0 (served_so x.ledger.decided d.epoch y f);
+              told = ap (λ z. told_by q.0 z) at ∙ ap (λ i. offer_in (served_in i d.epoch)) (sym number)
+                  ∙ ap offer_in f ∙ ap offer_of event_is;
+              offers = λ o is. served_first d s y f o (ap offer_of event_is ∙ is);
             }
 
     pub waiting_so : (q : ℕ × ChannelEvent × Verdict) → waiting e w.dispatchers ≡ Some q

@@ -1,6 +1,6 @@
 -- A node's end loses its connection, and its book hears what the end has kept.
 use Rattle.std.proofs.Common.{◌≡◌, inl, inr, ℕ, List, [], ◌∷◌, map, refl, sym, ap, ◌∙◌, subst, Bool, true, false}
-use Rattle.std.proofs.Common.{cond, ◌==◌, Option, Some, None}
+use Rattle.std.proofs.Common.{not, cond, ◌==◌, ◌&&◌, nat_le, Option, Some, None}
 use Rattle.std.specs.Prelude.{option_map}
 use Rattle.std.proofs.lemmas.Bool.{eqb-true}
 use Rattle.ln_keys.specs.declared.keys.ChannelKeys.{Ghosts}
@@ -12,10 +12,12 @@ use Rattle.ln_history.specs.History.{with_entry}
 use Rattle.ln_book_tables.specs.declared.htlc.Htlc.{Htlc}
 use Rattle.ln_book_tables.specs.declared.htlc.Key.{Key}
 use Rattle.ln_payment.specs.Rebuild.{is_uncovered}
+use Rattle.ln_book_tables.specs.declared.htlc.OutgoingLeg.TheVariants as outgoing
 use Rattle.ln_book_tables.specs.declared.entry.KeptState.{KeptState}
 use Rattle.ln_book_tables.specs.declared.entry.PendingCommand.TheVariants as pending_command
 use Rattle.ln_book_tables.specs.declared.entry.Entry.TheVariants as entry
 use Rattle.ln_book_tables.specs.Replay.{Table, table_of, pending_command_at, htlc_kept, put_back_all, kept_at, is_among}
+use Rattle.ln_book_tables.specs.Replay.{is_outgoing_lost}
 use Rattle.ln_book.specs.Kept.{has_own_removal}
 use Rattle.ln_book.specs.Uses.{kept_of}
 use Rattle.ln_world_channels.specs.declared.step.Node.{Node}
@@ -30,21 +32,23 @@ use Rattle.ln_world.specs.declared.step.Step.TheVariants as step
 use Rattle.ln_world.specs.Node.{Book, node_at, with_book}
 use Rattle.ln_world.specs.Follow.{followed}
 use Rattle.ln_world.specs.World.{World, happens, id_of, disconnected, dropped, saved_dropped, saved_of}
+use Rattle.ln_payment.specs.Parts.{Note, Offered, Among, IsAt}
 use Rattle.ln_payment.specs.Moves.{is_of}
-use Rattle.ln_payment_circuits.specs.Snapshot.{IsIn, IsFit}
-use Rattle.ln_payment_circuits.proofs.Links.{Side, HasAddAt, course_at, removal_at}
+use Rattle.ln_payment_circuits.specs.Snapshot.{Incoming, IsIn, IsFit}
+use Rattle.ln_payment_circuits.proofs.Links.{Side, Links, HasAddAt, course_at, removal_at}
 use Rattle.ln_payment_circuits.proofs.Losses.{Drops}
 use Rattle.ln_payment_circuits.proofs.Kept.{none_kept}
 use Rattle.ln_payment_circuits.proofs.Shifts.{side_of as read_side}
 use Rattle.ln_payment_circuits.proofs.Entries.{is_same}
-use Rattle.ln_payment_circuits.proofs.Scenes.{Scene, HavePayments, comes_back, awake_there, works_still}
+use Rattle.ln_payment_circuits.proofs.Scenes.{Scene, HasPayment, HavePayments, comes_back, awake_there, works_still}
 use Rattle.ln_payment_circuits.proofs.Resumed.{HoldAlike}
 use Rattle.ln_payment_circuits.proofs.Agrees.{agrees_fewer}
+use Rattle.ln_payment_circuits.proofs.Past.{IsPast, OffersNothing, past_on, offers_as, offers_map}
 use Rattle.ln_world.proofs.Scene.{link_in, links_of, scene_of, linked, now, no_node, either}
 use Rattle.ln_world.proofs.Lost.{link_is, side_is, halted_is, down_drops, down_halted, link_now}
 use Rattle.ln_world.proofs.Lost.{fall_leaves}
 use Rattle.ln_world.proofs.Books.{own_book, follow_alike, one_more, itself}
-use Rattle.ln_world.proofs.Same.{IsSame, same_paid, same_agrees, one_id}
+use Rattle.ln_world.proofs.Same.{IsSame, same_paid, same_agrees, same_past, one_id}
 use Rattle.ln_payment_circuits.proofs.Told.{covered, gone, none_removed}
 use Rattle.ln_world_channels.specs.Both.{Disconnects}
 use Rattle.ln_world.proofs.Answering.{LinkIs}
@@ -66,6 +70,99 @@ pub dropped_htlcs : (c : List ℕ) (told : KeptState) (b : Book)
 dropped_htlcs c told b idle =
     ap (λ (t : Table). t.htlcs) (one_more (entry.Dropped c told) b)
     ∙ ap (λ d. (put_back_all c told (kept_at c told.decides d (table_of b))).htlcs) idle
+
+-- ---- what is kept of a node's payments
+
+pub record AreStill (s : Scene) : Type 0 where
+  pub paid : HavePayments channel_id_of s
+  pub agrees : HoldAlike channel_id_of s
+  pub past : IsPast channel_id_of s
+
+pub same_still : (s t : Scene) → IsSame s t → AreStill s → AreStill t
+same_still s t e h = record {
+  paid = same_paid channel_id_of s t e h.paid;
+  agrees = same_agrees channel_id_of s t e h.agrees;
+  past = same_past channel_id_of s t e h.past;
+}
+
+-- ---- an end without its connection, whose link works still, or again: its book is told what it has kept
+
+module _ (c : ℕ) (l m : Links) (b : Book) (ys : List Htlc) (x : ChannelEnd) (x_fit : IsFit x)
+    (y_fit : IsFit (end_dropped x)) (x_side : l.sides c ≡ Some (read_side x))
+    (y_side : m.sides c ≡ Some (read_side (end_dropped x))) (drops : Drops (is_of c) l m)
+    (now : (d : ℕ) → m.halted d ≡ (not (d == c) && l.halted d))
+    (book : ys ≡ map (htlc_kept (channel_id_of c) (kept_of (channel_id_of c) (end_dropped x) b)) (table_of b).htlcs)
+    -- what the book has offered there, below the next id, is there
+    (offered : (h : Incoming) (p : HasPayment channel_id_of h (record { links = l; book = (table_of b).htlcs }))
+    (f : Note) (i : ℕ) → p.0.note ≡ Some f → f.outgoing ≡ Offered c i
+    → nat_le (kept_of (channel_id_of c) (end_dropped x) b).next i ≡ false → Among (IsAt c i) p.0.outs) where
+  abbrev was : Scene
+  was = record { links = l; book = (table_of b).htlcs }
+
+  abbrev is : Scene
+  is = record { links = m; book = ys }
+
+  abbrev kept : KeptState
+  kept = kept_of (channel_id_of c) (end_dropped x) b
+
+  still_paid : HavePayments channel_id_of was → HavePayments channel_id_of is
+  still_paid = comes_back channel_id_of one_id was is c kept drops now book
+      (λ i lt. ap (λ o. is_uncovered (course_at i o)) x_side ∙ covered x x_fit i lt)
+      (λ o i le a. gone x x_fit o i le (subst (HasAddAt o i) y_side a))
+      (λ z i z_in key none. ap (removal_at i) y_side ∙ none_removed (end_dropped x) y_fit i
+      (sym (ap (λ (j : Key). has_own_removal j.id (end_dropped x).dance.log) key)
+      ∙ none_kept (λ j. has_own_removal j (end_dropped x).dance.log) (channel_id_of c) was.book z z_in
+      (is_same (channel_id_of c) z.key.channel (sym (ap (λ (j : Key). j.channel) key)))
+      (ap (λ (j : Key). is_among j.id kept.removes) key ∙ none))) offered
+
+  still_agrees : HoldAlike channel_id_of was → HoldAlike channel_id_of is
+  still_agrees = agrees_fewer channel_id_of was is (record {
+    links = λ d Y at z z_in. elim (either (d == c)) [
+      | inr isnt ↦ (Y, sym (drops.others d isnt) ∙ at, z_in)
+      | inl here ↦ (
+        read_side x,
+        ap l.sides (eqb-true d c here) ∙ x_side,
+        subst (λ (y : Side). IsIn z y.decisions)
+            (let same_side : Some Y ≡ Some (read_side (end_dropped x)) =
+            sym at ∙ ap m.sides (eqb-true d c here) ∙ y_side in
+            let it_is : Y ≡ read_side (end_dropped x) = cc in it_is) z_in,
+      )
+    ];
+    book = λ z z_in. let r = map_among (htlc_kept (channel_id_of c) kept) z was.book (subst (IsIn z) book z_in) in (
+      r.0,
+      r.1,
+      record {
+        key = ap (λ (q : Htlc). q.key) r.2;
+        mark = ap (λ (q : Htlc). q.mark) r.2;
+        decided = λ dec. ap (λ (q : Htlc). q.decided) r.2 ∙ dec;
+      },
+    );
+  })
+
+  -- nothing goes out that didn't
+  none_new : OffersNothing channel_id_of (htlc_kept (channel_id_of c) kept)
+  none_new z k dec = cases (is_outgoing_lost (channel_id_of c) kept.next z.outgoing)
+    where
+      cases : (t : Bool) → cond t outgoing.Absent z.outgoing ≡ outgoing.Offered k
+          → (z.key ≡ z.key) × (z.decided ≡ true) × (z.outgoing ≡ outgoing.Offered k)
+      cases true f = absurd (cc)
+      cases false f = (refl, dec, f)
+
+  still_past : IsPast channel_id_of was → IsPast channel_id_of is
+  still_past = past_on channel_id_of was is
+      (λ d halted. elim (either (d == c)) [
+        | inl here ↦ absurd (let no : true ≡ false = sym halted ∙ now d ∙ ap (λ t. not t && l.halted d) here in cc)
+        | inr isnt ↦ (sym (ap (λ t. not t && l.halted d) isnt) ∙ sym (now d) ∙ halted, drops.others d isnt)
+      ])
+      (λ q d i y halted. offers_as channel_id_of was.book (map (htlc_kept (channel_id_of c) kept) was.book) ys book
+      (offers_map channel_id_of (htlc_kept (channel_id_of c) kept) none_new was.book) q d i y)
+
+  pub still_there : AreStill was → AreStill is
+  still_there h = record {
+    paid = still_paid h.paid;
+    agrees = still_agrees h.agrees;
+    past = still_past h.past;
+  }
 
 module _ {K : Type 0} (k : Ghosts K) (e : End) (w : World K)
     (open_ : Each (IsOpen k.signer) w.dispatchers.channels.channels) where
@@ -149,7 +246,7 @@ module _ {K : Type 0} (k : Ghosts K) (e : End) (w : World K)
 
     -- one that works
     module _ (awake : h ≡ false) (idle : IsIdle e.channel b) where
-      abbrev told : KeptState
+      abbrev pub told : KeptState
       told = kept_of (id_of e) (end_dropped x) b
 
       book_dropped : (behind v).book ≡ map (htlc_kept (channel_id_of e.channel) told) before.book
@@ -158,55 +255,18 @@ module _ {K : Type 0} (k : Ghosts K) (e : End) (w : World K)
           ∙ ap (λ z. (table_of (saved_dropped e z b)).htlcs) (ap saved_end at.stage)
           ∙ dropped_htlcs (channel_id_of e.channel) told b idle
 
-      pub fallen_paid : HavePayments channel_id_of before → HavePayments channel_id_of (behind v)
-      fallen_paid = comes_back channel_id_of one_id before (behind v) e.channel told drops_so
-          (works_still channel_id_of e.channel before (behind v) (halted ∙ awake) halted_so) book_dropped
-          (λ i lt. ap (λ o. is_uncovered (course_at i o)) x_side ∙ covered x x_fit i lt)
-          (λ o i le a. gone x x_fit o i le (subst (HasAddAt o i) y_side a))
-          (λ z i m key none. ap (removal_at i) y_side ∙ none_removed (end_dropped x) y_fit i
-          (sym (ap (λ (j : Key). has_own_removal j.id (end_dropped x).dance.log) key)
-          ∙ none_kept (λ j. has_own_removal j (end_dropped x).dance.log) (channel_id_of e.channel) before.book z m
-          (is_same (channel_id_of e.channel) z.key.channel (sym (ap (λ (j : Key). j.channel) key)))
-          (ap (λ (j : Key). is_among j.id told.removes) key ∙ none)))
+      pub fallen : AreStill before → AreStill (behind v)
+      fallen = still_there e.channel (links_of n cs) (links_of n new) b (behind v).book x x_fit y_fit x_side y_side
+          drops_so (works_still channel_id_of e.channel before (behind v) (halted ∙ awake) halted_so) book_dropped
           (λ q p f i note to near. awake_there channel_id_of e.channel before (halted ∙ awake) q p f i note to)
-
-      pub fallen_agrees : HoldAlike channel_id_of before → HoldAlike channel_id_of (behind v)
-      fallen_agrees = agrees_fewer channel_id_of before (behind v) (record {
-        links = λ c Y is d m. elim (either (c == e.channel)) [
-          | inr isnt ↦ (Y, sym (drops_so.others c isnt) ∙ is, m)
-          | inl it ↦ (
-            read_side x,
-            ap (links_of n cs).sides (eqb-true c e.channel it) ∙ x_side,
-            subst (λ (z : Side). IsIn d z.decisions)
-                (let same_side : Some Y ≡ Some (read_side (end_dropped x)) =
-                sym is ∙ ap (links_of n new).sides (eqb-true c e.channel it) ∙ y_side in
-                let it_is : Y ≡ read_side (end_dropped x) = cc in it_is) m,
-          )
-        ];
-        book = λ z m. let r = map_among (htlc_kept (channel_id_of e.channel) told) z before.book
-            (subst (IsIn z) book_dropped m) in (
-              r.0,
-              r.1,
-              record {
-                key = ap (λ (q : Htlc). q.key) r.2;
-                mark = ap (λ (q : Htlc). q.mark) r.2;
-                decided = λ d. ap (λ (q : Htlc). q.decided) r.2 ∙ d;
-              },
-            );
-      })
 
   -- ---- all of it
 
-  pub down : (v : Verdict) → IsIdle e.channel b → HavePayments channel_id_of before × HoldAlike channel_id_of before
-      → HavePayments channel_id_of (behind v) × HoldAlike channel_id_of (behind v)
+  pub down : (v : Verdict) → IsIdle e.channel b → AreStill before → AreStill (behind v)
   down v idle p = cases (link_in n e.channel cs) refl
     where
-      cases : (o : Option (State K)) → link_in n e.channel cs ≡ o
-          → HavePayments channel_id_of (behind v) × HoldAlike channel_id_of (behind v)
-      cases None none = (
-        same_paid channel_id_of before (behind v) (none_same none v) p.0,
-        same_agrees channel_id_of before (behind v) (none_same none v) p.1,
-      )
+      cases : (o : Option (State K)) → link_in n e.channel cs ≡ o → AreStill (behind v)
+      cases None none = same_still before (behind v) (none_same none v) p
       cases (Some s) there =
           let h = link_is k.signer n cs open_ e.channel s there in
           let q = link_now k.signer n cs open_ n (itself n) e.channel Disconnects falls_side (λ z. z)
@@ -220,13 +280,7 @@ module _ {K : Type 0} (k : Ghosts K) (e : End) (w : World K)
           let y = subst IsFit same_end j.is.fit in
           let hs = halted_is k.signer n cs open_ e.channel s there in
           elim (either h.halted) [
-            | inl is ↦ let same_scene =
-                halted_same s there q.0 q.1 h.end f sd y h.halted q.2 hs v is (h.dropped (h.down is)) in (
-                  same_paid channel_id_of before (behind v) same_scene p.0,
-                  same_agrees channel_id_of before (behind v) same_scene p.1,
-                )
-            | inr awake ↦ (
-              fallen_paid s there q.0 q.1 h.end f sd y h.halted q.2 hs v awake idle p.0,
-              fallen_agrees s there q.0 q.1 h.end f sd y h.halted q.2 hs v awake idle p.1,
-            )
+            | inl is ↦ same_still before (behind v)
+                (halted_same s there q.0 q.1 h.end f sd y h.halted q.2 hs v is (h.dropped (h.down is))) p
+            | inr awake ↦ fallen s there q.0 q.1 h.end f sd y h.halted q.2 hs v awake idle p
           ]

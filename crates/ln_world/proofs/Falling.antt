@@ -28,9 +28,8 @@ use Rattle.ln_payment_circuits.proofs.Shifts.{side_of as read_side}
 use Rattle.ln_world.specs.Circuit.{has_halted}
 use Rattle.ln_world.proofs.Scene.{scene_of, link_in, other_node, other_all, same_number}
 use Rattle.ln_world.proofs.Books.{own_book, other_book, follow_alike}
-use Rattle.ln_world.proofs.Same.{IsSame, same_paid, same_agrees}
-use Rattle.ln_world.proofs.Anew.{AreSmall}
-use Rattle.ln_world.proofs.Restarts.{small_all}
+use Rattle.ln_world.proofs.Same.{IsSame, same_paid, same_agrees, same_past}
+use Rattle.ln_world.proofs.Anew.{AreSmall, small_all}
 use Rattle.ln_world.proofs.Downs.{down}
 use Rattle.ln_world.proofs.PendingCommands.{IsCalm, calm_alike, calm_dropped}
 use Rattle.ln_world.proofs.Wells.{IsWell}
@@ -43,7 +42,7 @@ module _ {K : Type 0} (k : Ghosts K) where
   calm_kept e None b h = h
   calm_kept e (Some x) b h = calm_dropped (id_of e) (kept_of (id_of e) x b) b h
 
-  calm_fallen : (e : End) (d : Dispatchers K) (o : Option (State K)) (xs : List NodeBook)
+  pub calm_fallen : (e : End) (d : Dispatchers K) (o : Option (State K)) (xs : List NodeBook)
       → IsCalm (node_at e.node xs).book
       → IsCalm (node_at e.node (disconnected e d o xs)).book
   calm_fallen e d None xs h = h
@@ -63,15 +62,17 @@ module _ {K : Type 0} (k : Ghosts K) where
       → IsWell k e.node (happens k v (step.Down e) w)
   down_well e v w h =
       let cs = w.dispatchers.channels.channels in
-      let p = down k e w h.open_ v (h.calm (channel_id_of e.channel)) (h.paid, h.agrees) in
+      let p = down k e w h.open_ v (h.calm (channel_id_of e.channel))
+      (record { paid = h.paid; agrees = h.agrees; past = h.past }) in
       record {
         open_ = moved_so k (IsOpen k.signer) e.channel (disconnect_moves e.node) (fall_kept k.signer e.node) cs h.open_;
         small = small_all (moved_if k.signer e.channel (disconnect_moves e.node))
             (same_number k.signer e.node e.channel (disconnect_moves e.node)) cs h.small;
         calm = calm_fallen e (happens k v (step.Down e) w).dispatchers
             (link_at e (happens k v (step.Down e) w).dispatchers.channels.channels) w.nodes h.calm;
-        paid = p.0;
-        agrees = p.1;
+        paid = p.paid;
+        agrees = p.agrees;
+        past = p.past;
       }
 
   -- ---- of others
@@ -93,6 +94,7 @@ module _ {K : Type 0} (k : Ghosts K) where
           calm = subst (λ (x : NodeBook). IsCalm x.book) (sym books) h.calm;
           paid = same_paid channel_id_of (scene_of n w) (scene_of n u) same h.paid;
           agrees = same_agrees channel_id_of (scene_of n w) (scene_of n u) same h.agrees;
+          past = same_past channel_id_of (scene_of n w) (scene_of n u) same h.past;
         }
 
     pub fallen_else : (e : End) → is_node e.node n ≡ false

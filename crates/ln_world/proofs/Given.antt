@@ -47,7 +47,8 @@ use Rattle.ln_payment_circuits.specs.Snapshot.{IsIn}
 use Rattle.ln_payment_circuits.proofs.Tidy.{decides_so, resumes_so}
 use Rattle.ln_payment_circuits.proofs.Scenes.{HavePayments}
 use Rattle.ln_payment_circuits.proofs.Resumed.{HoldAlike}
-use Rattle.ln_world.specs.Circuit.{has_halted}
+use Rattle.ln_payment_circuits.proofs.Past.{IsPast}
+use Rattle.ln_world.proofs.Plainly.{awake_commanded}
 use Rattle.ln_world.proofs.Answering.{RowSteps, IfDone, AtSaved}
 use Rattle.ln_world.proofs.Moving.{row_of}
 use Rattle.ln_world.proofs.Scene.{link_in}
@@ -61,11 +62,10 @@ use Rattle.ln_world.proofs.Refusing.{IfErr, IsCertain, IsBooks, certain}
 use Rattle.ln_world.proofs.Obeyed.{by_row, told_so, proposed, noted, IsProposed, IsNoted}
 use Rattle.ln_world.proofs.Hearing.{hears_none}
 use Rattle.ln_world.proofs.Acting.{done_by, lines_of, turn, ds, x, y, act_channels, act_book, act_later}
-use Rattle.ln_world.proofs.Acting.{concludes}
+use Rattle.ln_world.proofs.Acting.{concludes, past_now, OffersAwake}
 use Rattle.ln_world.proofs.Acting.{refused_sides}
 use Rattle.ln_log.specs.declared.mark.Decision.{Decision}
 use Rattle.ln_book_tables.specs.declared.htlc.Htlc.{Htlc}
-use Rattle.ln_book_tables.specs.declared.htlc.Key.{Key}
 use Rattle.ln_world_dispatch.specs.World.{decided_of}
 use Rattle.ln_world.specs.World.{saved_of}
 use Rattle.ln_world.proofs.Books.{itself}
@@ -74,8 +74,8 @@ use Rattle.ln_world.proofs.Scene.{links_of}
 use Rattle.ln_world.proofs.Same.{same_paid}
 use Rattle.ln_world.proofs.Doing.{Turns, kin_agrees}
 use Rattle.ln_world.proofs.Hearing.{AreKin}
-use Rattle.ln_world.proofs.Orderly.{OneLater, View, IsOrderly, IsDated, Fewer, AllName, view_at, below_in}
-use Rattle.ln_world.proofs.Orderly.{dated_later}
+use Rattle.ln_world.proofs.Orderly.{OneLater, View, IsOrderly, AreLater, WaitsAt, AllName, view_at, below_in, told_in}
+use Rattle.ln_world.proofs.Orderly.{order_known, dispatchers_stay}
 
 -- ---- such a command tells no new event
 
@@ -282,6 +282,7 @@ module _ {K : Type 0} (k : Ghosts K) (e : End) (v : Verdict) (w : World K) (h : 
     links = links_of n new;
     decided = λ d. decided_of (saved_of (link_in n d new));
     below = below_in n w.dispatchers.dispatchers;
+    told = told_in n w.dispatchers.dispatchers;
     queue = turned_queue (id_of e) answer o (table_of b0);
     htlcs = turned_htlcs (id_of e) answer o (table_of b0);
   }
@@ -296,13 +297,15 @@ module _ {K : Type 0} (k : Ghosts K) (e : End) (v : Verdict) (w : World K) (h : 
         book = turned_htlcs (id_of e) answer o
             (table_of b0);
       })
+      → IsPast channel_id_of (record { links = links_of n new; book = turned_htlcs (id_of e) answer o (table_of b0) })
       → IsOrderly view_now → Holds k n then
-  given_holds paid agrees order =
+  given_holds paid agrees past order =
       concludes k e v w h.well.open_ (channel_act.Send c) may s there answer_row row_is then
       (act_channels k e v w h.well.open_ (channel_act.Send c) may s there answer_row row_is) refl book_now given_alike
       h.well.small turned.calm
       (subst (λ hs. HavePayments channel_id_of (record { links = links_of n new; book = hs })) (sym turned.htlcs) paid)
       (subst (λ hs. HoldAlike channel_id_of (record { links = links_of n new; book = hs })) (sym turned.htlcs) agrees)
+      (subst (λ hs. IsPast channel_id_of (record { links = links_of n new; book = hs })) (sym turned.htlcs) past)
       (subst (λ hs. IsOrderly (record view_now { queue = (table_of book_now).queue; htlcs = hs })) (sym turned.htlcs)
       (subst (λ qs. IsOrderly (record view_now { queue = qs })) (sym turned.queue) order))
 
@@ -320,6 +323,13 @@ module _ {K : Type 0} (k : Ghosts K) (e : End) (v : Verdict) (w : World K) (h : 
         book = refl;
       })
 
+  -- where links that have halted offer nothing new
+  pub past_then : (xs ys : List Htlc) → OffersAwake (links_of n new) xs ys
+      → IsPast channel_id_of (record { links = links_of n cs; book = xs })
+      → IsPast channel_id_of (record { links = links_of n new; book = ys })
+  past_then = past_now k e v w h.well.open_ (channel_act.Send c) may s there answer_row row_is
+      (λ d is. awake_commanded (k.signer s.keys) s c d is)
+
   -- where its decisions are among those that there were
   pub agrees_now : ((d : Decision) → IsIn d y0.ledger.decisions → IsIn d x0.ledger.decisions) → (xs ys : List Htlc)
       → AreKin xs ys → HoldAlike channel_id_of (record { links = links_of n cs; book = xs })
@@ -332,19 +342,14 @@ module _ {K : Type 0} (k : Ghosts K) (e : End) (v : Verdict) (w : World K) (h : 
   later_now names = act_later k e v w h.well.open_ (channel_act.Send c) may s there answer_row row_is names
 
   -- the book as it was, but for what was entered in this step
-  pub order_now : (AllName x0.dance.log.own → AllName y0.dance.log.own) → (b : Book)
+  pub order_now : (AllName x0.dance.log.own → AllName y0.dance.log.own) → (Known : Htlc → Type 0) (b : Book)
       → ((q : Queued) → IsIn q (turned_queue (id_of e) answer o (table_of b0)) → IsIn q (table_of b).queue)
-      → Fewer (table_of b).htlcs (turned_htlcs (id_of e) answer o (table_of b0))
+      → AreLater Known (table_of b).htlcs (turned_htlcs (id_of e) answer o (table_of b0))
+      → ((d : ℕ) (z : Htlc) → IsIn z (table_of b).htlcs → z.key.channel ≡ channel_id_of d
+      → WaitsAt (view_at n cs w.dispatchers.dispatchers b) d z
+      → decided_of (saved_of (link_in n d new)) ≡ decided_of (saved_of (link_in n d cs)) → Known z)
       → IsOrderly (view_at n cs w.dispatchers.dispatchers b) → IsOrderly view_now
-  order_now names b queue fewer order =
-      let later = act_later k e v w h.well.open_ (channel_act.Send c) may s there answer_row row_is names in
-      record {
-        queued = λ d q m at. let was = order.queued d q (queue q m) at in ((later d).halted was.0, was.1);
-        dated = λ d z m at. let was = fewer z m in
-            subst (λ i. IsDated i (decided_of (saved_of (link_in n d new))) (has_halted (link_in n d new))) (sym was.3)
-            (dated_later was.0.event (decided_of (saved_of (link_in n d cs))) (decided_of (saved_of (link_in n d new)))
-            (has_halted (link_in n d cs)) (has_halted (link_in n d new)) (later d).decided (later d).halted
-            (order.dated d was.0 was.1 (ap (λ (j : Key). j.channel) (sym was.2) ∙ at)));
-        keyed = λ z m. let was = fewer z m in let j = order.keyed was.0 was.1 in (j.0, was.2 ∙ j.1);
-        named = λ d. (later d).names (order.named d);
-      }
+  order_now names Known b queue later known order =
+      let links = act_later k e v w h.well.open_ (channel_act.Send c) may s there answer_row row_is names in
+      order_known Known (view_at n cs w.dispatchers.dispatchers b) view_now
+      (λ d. ((links d).decided, (links d).names)) queue later (dispatchers_stay n w.dispatchers.dispatchers) known order

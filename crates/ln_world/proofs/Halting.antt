@@ -1,6 +1,6 @@
 -- An end of the node has no memory for its act, and halts; its book hears nothing that a payment is read off.
 use Rattle.std.proofs.Common.{◌≡◌, ◌⊎◌, inl, inr, ℕ, List, refl, sym, ap, ◌∙◌, subst, Bool, true, false}
-use Rattle.std.proofs.Common.{cond, ◌==◌, Option, Some, None, Err}
+use Rattle.std.proofs.Common.{cond, ◌==◌, ◌||◌, Option, Some, None, Err}
 use Rattle.std.specs.Prelude.{option_map}
 use Rattle.ln_keys.specs.declared.keys.ChannelKeys.{Ghosts}
 use Rattle.ln_keys.specs.declared.role.Role.{Role}
@@ -41,14 +41,14 @@ use Rattle.ln_world.specs.World.{World, id_of, first_in, moved_by, unanswered, l
 use Rattle.ln_payment_circuits.specs.Snapshot.{IsIn}
 use Rattle.ln_payment_circuits.proofs.Links.{Side}
 use Rattle.ln_payment_circuits.proofs.Halts.{halts}
+use Rattle.ln_payment_circuits.proofs.Past.{past_halts, offers_same}
 use Rattle.ln_payment_circuits.proofs.Agrees.{agrees_fewer, was_same}
 use Rattle.ln_payment_circuits.proofs.Losses.{Drops, all_dropped, dropped}
 use Rattle.ln_world.proofs.Scene.{links_of, scene_of, link_in, now, same_number, either}
 use Rattle.ln_world.proofs.Lost.{halt_drops, halt_halted}
 use Rattle.ln_world.proofs.Books.{own_book, follow_alike, itself, IsAlike}
 use Rattle.ln_world.proofs.Same.{one_id}
-use Rattle.ln_world.proofs.Anew.{AreSmall}
-use Rattle.ln_world.proofs.Restarts.{small_all}
+use Rattle.ln_world.proofs.Anew.{AreSmall, small_all}
 use Rattle.ln_world.proofs.PendingCommands.{IsCalm, calm_alike, book_turned}
 use Rattle.ln_world.proofs.Wells.{IsWell, book_in, well_as}
 
@@ -128,6 +128,9 @@ module _ {K : Type 0} (k : Ghosts K) (e : End) (w : World K) (h : IsWell k e.nod
       let drops : Drops (is_of e.channel) (links_of n cs) (links_of n u.dispatchers.channels.channels) =
       subst (λ xs. Drops (is_of e.channel) (links_of n cs) (links_of n xs)) (sym x.0)
       (halt_drops k.signer n cs h.open_ n (itself n) e.channel) in
+      let now : (d : ℕ) → (links_of n u.dispatchers.channels.channels).halted d
+      ≡ ((d == e.channel) || (links_of n cs).halted d) = λ d. ap (λ xs. (links_of n xs).halted d) x.0
+      ∙ halt_halted k.signer n cs h.open_ n (itself n) e.channel x.1 x.2 d in
       record {
         open_ = subst (Each (IsOpen k.signer)) (sym x.0)
             (moved_so k (IsOpen k.signer) e.channel (halt_moves n) (halt_kept k.signer n) cs h.open_);
@@ -136,8 +139,7 @@ module _ {K : Type 0} (k : Ghosts K) (e : End) (w : World K) (h : IsWell k e.nod
             cs h.small);
         calm = b.calm h.calm;
         paid = halts channel_id_of one_id (scene_of n w) (scene_of n u) e.channel drops
-            (λ d. ap (λ xs. (links_of n xs).halted d) x.0
-            ∙ halt_halted k.signer n cs h.open_ n (itself n) e.channel x.1 x.2 d) b.htlcs h.paid;
+            now b.htlcs h.paid;
         agrees = agrees_fewer channel_id_of (scene_of n w) (scene_of n u) (record {
           links = λ c Y is d m. elim (either (c == e.channel)) [
             | inr isnt ↦ (Y, sym (drops.others c isnt) ∙ is, m)
@@ -145,6 +147,8 @@ module _ {K : Type 0} (k : Ghosts K) (e : End) (w : World K) (h : IsWell k e.nod
           ];
           book = λ z m. (z, subst (λ xs. IsIn z xs) b.htlcs m, was_same z);
         }) h.agrees;
+        past = past_halts channel_id_of one_id (scene_of n w) (scene_of n u) e.channel drops now
+            (offers_same channel_id_of (scene_of n w).book (scene_of n u).book b.htlcs) h.paid h.past;
       }
     where
       was_there : (c : ℕ) (o : Option Side) → (links_of n cs).sides c ≡ o → (Y : Side)

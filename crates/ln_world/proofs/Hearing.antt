@@ -15,10 +15,12 @@ use Rattle.ln_channel.specs.Pending.{named_by, event_in}
 use Rattle.ln_channel.specs.End.{End}
 use Rattle.ln_book_tables.specs.declared.htlc.Htlc.{Htlc}
 use Rattle.ln_book_tables.specs.declared.htlc.Key.{Key}
+use Rattle.ln_book_tables.specs.declared.htlc.OutgoingLeg.{OutgoingLeg}
 use Rattle.ln_book_tables.specs.declared.htlc.OutgoingLeg.TheVariants as outgoing
 use Rattle.ln_book_tables.specs.declared.htlc.IncomingLeg.TheVariants as back
 use Rattle.ln_book_tables.specs.declared.entry.Entry.TheVariants as entry
-use Rattle.ln_book_tables.specs.Replay.{Table, table_of, is_htlc, is_offered, is_finished, changed_first, left_out}
+use Rattle.ln_book_tables.specs.Replay.{Table, table_of, goes_by, is_htlc, is_offered, is_finished, changed_first}
+use Rattle.ln_book_tables.specs.Replay.{left_out}
 use Rattle.ln_book_tables.specs.Replay.{put_outgoing}
 use Rattle.ln_book_tables.specs.Replay.{put_incoming, with_incoming}
 use Rattle.ln_world_dispatch.specs.World.{undecided, item, named_at}
@@ -28,12 +30,14 @@ use Rattle.ln_world.specs.BookReports.{with_event, with_events, with_held, event
 use Rattle.ln_payment.specs.Parts.{IsHeld, IsEnd}
 use Rattle.ln_payment_circuits.specs.Snapshot.{Incoming, IsIn}
 use Rattle.ln_payment_circuits.proofs.Links.{Links, course_at, removal_at}
-use Rattle.ln_payment_circuits.proofs.Entries.{kind_of}
+use Rattle.ln_payment_circuits.proofs.Entries.{kind_of, key_is}
 use Rattle.ln_payment_circuits.proofs.Lists.{among_changed, of_picked}
 use Rattle.ln_payment_circuits.proofs.Scenes.{HasPayment, scene, settles, tells}
+use Rattle.ln_payment_circuits.proofs.Past.{OldOffers, offers_same, offers_then, offers_left, offers_changed}
 use Rattle.ln_payment_circuits.proofs.Waiting.{drop_next}
 use Rattle.ln_world.proofs.Books.{one_more}
 use Rattle.ln_world.proofs.Same.{one_id}
+use Rattle.ln_world.proofs.Orderly.{AreLater, later_same, later_left, later_changed, later_then}
 
 abbrev key : List ℕ → ℕ → Key
 key c id = record { channel = c; id = id }
@@ -230,6 +234,78 @@ all_paid h l c [] y xs awake so k = k
 all_paid h l c (r ∷ rs) y xs awake so k =
     all_paid h l c rs y (after_event (channel_id_of c) (named_by r y) xs) awake so.1
     (one_paid h l c (named_by r y) xs awake so.0 k)
+
+-- ---- of an HTLC that waits nothing is heard, where its channel holds no removal of it
+
+abbrev pub NoneHeld : Links → Htlc → Type 0
+NoneHeld l x = (c : ℕ) → x.key.channel ≡ channel_id_of c → IsHeld (removal_at x.key.id (l.sides c)) → ⊥
+
+none_held_still : (l : Links) (x y : Htlc) → y.key ≡ x.key → NoneHeld l x → NoneHeld l y
+none_held_still l x y e h c at held = h c (sym (ap (λ (k : Key). k.channel) e) ∙ at)
+    (subst (λ i. IsHeld (removal_at i (l.sides c))) (ap (λ (k : Key). k.id) e) held)
+
+nowhere_else : (k : Key) (w : OutgoingLeg) → w ≡ outgoing.Absent → goes_by k w ≡ true → ⊥
+nowhere_else k w e f = absurd (let no : false ≡ true = sym (ap (goes_by k) e) ∙ f in cc)
+
+later_event : (l : Links) (c : ℕ) (o : Option ChannelEvent) (xs : List Htlc) → IsSo l c o
+    → AreLater (NoneHeld l) xs (after_event (channel_id_of c) o xs)
+later_event l c None xs so = later_same (NoneHeld l) xs
+later_event l c (Some (event.Added own id amount hash expiry onion)) xs so = later_same (NoneHeld l) xs
+later_event l c (Some (event.Closed fee)) xs so = later_same (NoneHeld l) xs
+later_event l c (Some (event.Settled true id how)) xs so =
+    later_changed (NoneHeld l) (is_offered (key (channel_id_of c) id))
+    (put_outgoing (outgoing.Resolved (key (channel_id_of c) id) how)) xs (λ x m hit. record {
+      key = refl;
+      event = refl;
+      was = λ e. (e, refl);
+      waits = λ known new. absurd (nowhere_else (key (channel_id_of c) id) x.outgoing new.1 hit);
+    })
+later_event l c (Some (event.Settled false id how)) xs so =
+    let k = key (channel_id_of c) id in
+    later_then (NoneHeld l) (none_held_still l) xs (with_incoming k back.Settled xs)
+    (left_out (is_finished k) (with_incoming k back.Settled xs))
+    (later_changed (NoneHeld l) (is_htlc k) (put_incoming back.Settled) xs (λ x m hit.
+    let here : k ≡ x.key = key_is k x.key hit in
+    record {
+      key = refl;
+      event = refl;
+      was = λ e. (e, refl);
+      waits = λ known new. absurd (known c (sym (ap (λ (j : Key). j.channel) here))
+          (subst (λ i. IsHeld (removal_at i (l.sides c))) (ap (λ (j : Key). j.id) here) so));
+    }))
+    (later_left (NoneHeld l) (is_finished k) (with_incoming k back.Settled xs))
+
+pub later_all : (l : Links) (c : ℕ) (rs : List EventRef) (y : End) (xs : List Htlc) → AreSo l c rs y
+    → AreLater (NoneHeld l) xs (after_all (channel_id_of c) rs y xs)
+later_all l c [] y xs so = later_same (NoneHeld l) xs
+later_all l c (r ∷ rs) y xs so = later_then (NoneHeld l) (none_held_still l) xs
+    (after_event (channel_id_of c) (named_by r y) xs)
+    (after_all (channel_id_of c) rs y (after_event (channel_id_of c) (named_by r y) xs))
+    (later_event l c (named_by r y) xs so.0)
+    (later_all l c rs y (after_event (channel_id_of c) (named_by r y) xs) so.1)
+
+-- ---- nothing new goes out
+
+abbrev Offering : List Htlc → List Htlc → Type 0
+Offering xs ys = OldOffers channel_id_of xs ys
+
+offers_event : (c : List ℕ) (o : Option ChannelEvent) (xs : List Htlc) → Offering xs (after_event c o xs)
+offers_event c None xs = offers_same channel_id_of xs xs refl
+offers_event c (Some (event.Added own id amount hash expiry onion)) xs = offers_same channel_id_of xs xs refl
+offers_event c (Some (event.Closed fee)) xs = offers_same channel_id_of xs xs refl
+offers_event c (Some (event.Settled true id how)) xs = offers_changed channel_id_of (is_offered (key c id))
+    (put_outgoing (outgoing.Resolved (key c id) how)) (λ x k dec at. absurd
+    (let no : ◌≡◌ {A = OutgoingLeg} (outgoing.Resolved (key c id) how) (outgoing.Offered k) = at in cc)) xs
+offers_event c (Some (event.Settled false id how)) xs = offers_then channel_id_of xs (with_incoming
+    (key c id) back.Settled xs) (left_out (is_finished (key c id)) (with_incoming (key c id) back.Settled xs))
+    (offers_changed channel_id_of (is_htlc (key c id)) (put_incoming back.Settled) (λ x k dec at. (refl, dec, at)) xs)
+    (offers_left channel_id_of (is_finished (key c id)) (with_incoming (key c id) back.Settled xs))
+
+pub offers_all : (c : List ℕ) (rs : List EventRef) (y : End) (xs : List Htlc) → Offering xs (after_all c rs y xs)
+offers_all c [] y xs = offers_same channel_id_of xs xs refl
+offers_all c (r ∷ rs) y xs = offers_then channel_id_of xs (after_event c (named_by r y) xs)
+    (after_all c rs y (after_event c (named_by r y) xs)) (offers_event c (named_by r y) xs)
+    (offers_all c rs y (after_event c (named_by r y) xs))
 
 -- ---- which events they name
 

@@ -1,5 +1,5 @@
 -- What is kept of a node in a world, each step keeps, where the node's ends are asked by its book alone.
-use Rattle.std.proofs.Common.{◌≡◌, ℕ, List, [], ◌∷◌, ◌++◌, refl, sym, subst, append-nil, append_assoc}
+use Rattle.std.proofs.Common.{◌≡◌, ℕ, List, [], ◌∷◌, ◌++◌, refl, sym, subst, append-nil, append_assoc, ap}
 use Rattle.std.proofs.Common.{Bool, true, false, cond, Option, Some, None}
 use Rattle.std.specs.Prelude.{option_map, is_some}
 use Rattle.ln_keys.specs.declared.keys.ChannelKeys.{Ghosts}
@@ -34,12 +34,14 @@ use Rattle.ln_world.proofs.Falling.{fallen_else, other_falls, other_restarts}
 use Rattle.ln_world.proofs.Others.{do_apart, memory_apart, stop_apart, stopped_apart, acts_else, halts_else}
 use Rattle.ln_world.proofs.Others.{stops_else}
 use Rattle.ln_world.proofs.Others.{stopped_so, other_acts, other_halts, other_stops, other_stopped}
-use Rattle.ln_world.proofs.Orderly.{DispatchersLater, orderly, stays_later, others_begin}
+use Rattle.ln_world.proofs.Orderly.{DispatchersLater, Any, orderly, stays_later, others_begin, view_of, later_same}
+use Rattle.ln_world.proofs.Orderly.{later_as, dispatchers_stay}
 use Rattle.ln_world.proofs.Keeping.{Holds, down_holds, memory_holds, policy_holds, expect_holds, height_holds}
 use Rattle.ln_world.proofs.Keeping.{fees_holds}
 use Rattle.ln_world.proofs.Keeping.{limits_holds, dispatch_holds, register_holds, up_holds}
 use Rattle.ln_world.proofs.Sending.{deliver_holds, send_holds}
-use Rattle.ln_world.proofs.Taking.{take_holds}
+use Rattle.ln_world.proofs.Reloading.{reload_holds, reload_links, reload_nodes, other_reloads}
+use Rattle.ln_world.proofs.Giving.{take_holds}
 use Rattle.ln_world.proofs.Dispatched.{Ran}
 use Rattle.ln_world.proofs.Deciding.{decide_holds, decide_may, undecided_may}
 use Rattle.ln_world.proofs.Resuming.{resume_holds, resuming_may}
@@ -63,40 +65,37 @@ module _ {K : Type 0} (k : Ghosts K) where
           (λ d. stays_later (link_in n d w.dispatchers.channels.channels)
           (link_in n d u.dispatchers.channels.channels) (links d))
           (λ q m. subst (λ (z : NodeBook). IsIn q (table_of z.book).queue) nodes m)
-          (λ y m. (
-            y,
-            subst (λ (z : NodeBook). IsIn y (table_of z.book).htlcs) nodes m,
-            refl,
-            refl,
-          )) dispatchers h.order;
+          (later_as Any (view_of n w).htlcs (view_of n w).htlcs (view_of n u).htlcs
+          (ap (λ (z : NodeBook). (table_of z.book).htlcs) nodes) (later_same Any (view_of n w).htlcs)) dispatchers
+          h.order;
     }
 
     anew_later : (m : Node) → is_node m n ≡ false → (b : Bool) (c : Channels K) (ds : List Dispatcher)
         → DispatchersLater n ds (cond b (all_restart m c ds) ds)
     anew_later m isnt true c ds = others_begin m n isnt c ds
-    anew_later m isnt false c ds = λ d i is. is
+    anew_later m isnt false c ds = dispatchers_stay n ds
 
     module _ (e : End) (isnt : is_node e.node n ≡ false) (v : Verdict) where
       do_dispatchers : (o : Option ChannelAct) → DispatchersLater n w.dispatchers.dispatchers
           (moved_by k v (option_map (λ x. dispatcher_step.Do e x) o) w.dispatchers).dispatchers
-      do_dispatchers None = λ d i is. is
-      do_dispatchers (Some a) = λ d i is. is
+      do_dispatchers None = dispatchers_stay n w.dispatchers.dispatchers
+      do_dispatchers (Some a) = dispatchers_stay n w.dispatchers.dispatchers
 
       memory_dispatchers : (o : Option ChannelAct) → DispatchersLater n w.dispatchers.dispatchers
           (moved_by k v (option_map (λ x. dispatcher_step.NoMemory e x) o) w.dispatchers).dispatchers
-      memory_dispatchers None = λ d i is. is
-      memory_dispatchers (Some a) = λ d i is. is
+      memory_dispatchers None = dispatchers_stay n w.dispatchers.dispatchers
+      memory_dispatchers (Some a) = dispatchers_stay n w.dispatchers.dispatchers
 
       stop_dispatchers : (o : Option ChannelAct) → DispatchersLater n w.dispatchers.dispatchers
           (moved_by k v (option_map (λ x. dispatcher_step.StopBefore e x) o) w.dispatchers).dispatchers
-      stop_dispatchers None = λ d i is. is
+      stop_dispatchers None = dispatchers_stay n w.dispatchers.dispatchers
       stop_dispatchers (Some a) = anew_later e.node isnt (may_act e a w.dispatchers)
           (dispatchers.moved_by k (dispatchers.plain k
           (dispatcher_step.StopBefore e a) w.dispatchers) w.dispatchers.channels) w.dispatchers.dispatchers
 
       behind_dispatchers : (o : Option ChannelAct) (r : Option ℕ) → DispatchersLater n w.dispatchers.dispatchers
           (moved_by k v (stops_behind e o r) w.dispatchers).dispatchers
-      behind_dispatchers None None = λ d i is. is
+      behind_dispatchers None None = dispatchers_stay n w.dispatchers.dispatchers
       behind_dispatchers None (Some j) = anew_later e.node isnt (may_act e (resumes j) w.dispatchers)
           (dispatchers.moved_by k (dispatchers.plain k (dispatcher_step.StopBefore e
           (resumes j)) w.dispatchers) w.dispatchers.channels) w.dispatchers.dispatchers
@@ -129,7 +128,12 @@ module _ {K : Type 0} (k : Ghosts K) where
       others_fall = others_hold (happens k v (step.Down e) w) (other_falls k n e isnt v w h.well)
           (λ d. other_node k.signer e.node Disconnects falls_side n e.channel w.dispatchers.channels.channels isnt d)
           (fallen_else k n e isnt (happens k v (step.Down e) w).dispatchers
-          (link_at e (happens k v (step.Down e) w).dispatchers.channels.channels) w.nodes) (λ d i is. is)
+          (link_at e (happens k v (step.Down e) w).dispatchers.channels.channels) w.nodes)
+          (dispatchers_stay n w.dispatchers.dispatchers)
+
+    others_reload : (e : End) → is_node e.node n ≡ false → (v : Verdict) → Holds k n (happens k v (step.Reload e) w)
+    others_reload e isnt v = others_hold (happens k v (step.Reload e) w) (other_reloads k e v w n isnt h.well)
+        (reload_links k e v w n isnt) (reload_nodes k e v w n isnt) (dispatchers_stay n w.dispatchers.dispatchers)
 
     others_restart : (m : Node) → is_node m n ≡ false → (v : Verdict) → Holds k n (happens k v (step.Restart m) w)
     others_restart m isnt v =
@@ -144,18 +148,18 @@ module _ {K : Type 0} (k : Ghosts K) where
 
   module _ (e : End) (v : Verdict) (w : World K) (h : Holds k e.node w) (r : Ran k w) where
     pub own_do : (a : Act) → OfBook e.node e a → Holds k e.node (happens k v (step.Do e a) w)
-    own_do act.Deliver o = deliver_holds k e v w h
-    own_do (act.Send c) o = send_holds k e v w h c (o (itself e.node))
-    own_do act.Take o = take_holds k e v w h
+    own_do act.Deliver o = deliver_holds k e v w h r
+    own_do (act.Send c) o = send_holds k e v w h r c (o (itself e.node))
+    own_do act.Take o = take_holds k e v w h r
     own_do act.Decide o = decide_holds k e v w h r
-    own_do (act.Resume i x) o = resume_holds k e v w h i x
+    own_do (act.Resume i x) o = resume_holds k e v w h r i x
 
     acts_may : (a : Act) (x : ChannelAct) → call_of e a w ≡ Some x → May k e v w h x
     acts_may act.Deliver x is = deliver_may k e v w h x is
     acts_may (act.Send c) x is = command_may k e v w h c x is
     acts_may act.Take x is = take_may k e v w h x is
     acts_may act.Decide x is = decide_may k e v w h r (waiting e w.dispatchers) refl x is
-    acts_may (act.Resume i y) x is = resuming_may k e v w h i y x is
+    acts_may (act.Resume i y) x is = resuming_may k e v w h r i y x is
 
     resumes_may : (a : Act) (j : ℕ) → resumed_at e a w.dispatchers ≡ Some j → May k e v w h (resumes j)
     resumes_may act.Deliver j is = absurd (cc)
@@ -229,6 +233,8 @@ module _ {K : Type 0} (k : Ghosts K) where
         (λ isnt. others_memory n w h e isnt v a) (memory_holds k e v w a)
     step_holds (step.Restart m) o = by_node m (happens k v (step.Restart m) w) (λ isnt. others_restart n w h m isnt v)
         (restart_holds k m v w)
+    step_holds (step.Reload e) o = by_node e.node (happens k v (step.Reload e) w)
+        (λ isnt. others_reload n w h e isnt v) (reload_holds k e v w)
     step_holds (step.StopBefore e a) o = by_node e.node (happens k v (step.StopBefore e a) w)
         (λ isnt. others_stop n w h e isnt v a) (λ g. own_stops e v w g r a)
     step_holds (step.StopAfter e a) o =
@@ -250,7 +256,7 @@ module _ {K : Type 0} (k : Ghosts K) where
     well = nothing_yet k n hooks;
     order =
         record {
-          queued = λ c q m at. absurd m;
+          queued = λ c q m at free. absurd m;
           dated = λ c x m at. absurd m;
           keyed = λ x m. absurd m;
           named = λ c. tt;

@@ -1,6 +1,6 @@
 -- The steps in which a node's payments have no part, and lost connections and ends without memory, keep it orderly.
 use Rattle.std.proofs.Common.{◌≡◌, inl, inr, ℕ, List, [], ◌∷◌, map, refl, sym, ap, ◌∙◌, subst, arith}
-use Rattle.std.proofs.Common.{Bool, true, false, cond, ◌==◌, Option, Some, None}
+use Rattle.std.proofs.Common.{Bool, true, false, cond, not, ◌++◌, ◌-◌, ◌==◌, ◌||◌, nat_le, Option, Some, None}
 use Rattle.std.specs.Prelude.{option_map}
 use Rattle.std.proofs.lemmas.Bool.{eqb-true}
 use Rattle.std.proofs.lemmas.List.{length-append}
@@ -22,7 +22,10 @@ use Rattle.ln_book_tables.specs.declared.entry.Queued.{Queued}
 use Rattle.ln_book_tables.specs.declared.entry.Entry.TheVariants as entry
 use Rattle.ln_book_tables.specs.declared.entry.PendingCommand.TheVariants as pending_command
 use Rattle.ln_book_tables.specs.declared.htlc.Htlc.{Htlc}
-use Rattle.ln_book_tables.specs.Replay.{Table, table_of, pending_command_at, put_back_all, kept_at, htlc_kept}
+use Rattle.ln_book_tables.specs.declared.htlc.Offer.{Offer}
+use Rattle.ln_book_tables.specs.declared.htlc.OutgoingLeg.TheVariants as outgoing
+use Rattle.ln_book_tables.specs.Replay.{Table, table_of, pending_command_at, put_back_all, kept_at, htlc_kept, same}
+use Rattle.ln_book_tables.specs.Replay.{is_outgoing_lost, incoming_kept, is_among}
 use Rattle.ln_world_channels.specs.declared.step.Act.{Act as ChannelAct}
 use Rattle.ln_world_channels.specs.declared.step.Node.{Node}
 use Rattle.ln_world_channels.specs.declared.step.End.{End}
@@ -33,7 +36,7 @@ use Rattle.ln_world_channels.specs.Promises.{Each}
 use Rattle.ln_world_channels.proofs.Kept.{IsOpen}
 use Rattle.ln_world_dispatch.specs.declared.step.Step.TheVariants as dispatcher_step
 use Rattle.ln_world_dispatch.specs.Dispatcher.{Dispatcher, serving, registered, at_dispatcher}
-use Rattle.ln_world_dispatch.specs.World.{World as Dispatchers, next_event, served_at, may_register}
+use Rattle.ln_world_dispatch.specs.World.{World as Dispatchers, item, both_of, next_event, served_at, may_register}
 use Rattle.ln_book.specs.Uses.{kept_of}
 use Rattle.ln_world.specs.declared.node.NodeBook.{NodeBook}
 use Rattle.ln_world.specs.declared.step.Act.{Act}
@@ -44,7 +47,6 @@ use Rattle.ln_world.specs.World.{World, happens, is_height, moved_by, unbegun, d
 use Rattle.ln_world.specs.World.{id_of, link_at}
 use Rattle.ln_world.specs.World.{saved_of}
 use Rattle.ln_payment_circuits.specs.Snapshot.{IsIn}
-use Rattle.ln_world.specs.Circuit.{has_halted}
 use Rattle.ln_world.proofs.Answering.{LinkIs}
 use Rattle.ln_world.proofs.Ends.{IsLink}
 use Rattle.ln_world.proofs.Moving.{IsOfSide}
@@ -59,10 +61,11 @@ use Rattle.ln_world.proofs.Wells as wells
 use Rattle.ln_world.proofs.Halting.{Halted, halt_or, halts_read, act_halts}
 use Rattle.ln_world.proofs.Meeting.{all_same, met_alike, up_well, new as met_new}
 use Rattle.ln_world.proofs.Falling.{down_well}
-use Rattle.ln_world.proofs.Orderly.{IsOrderly, view_of, OneLater, Fewer, DispatchersLater, orderly}
-use Rattle.ln_world.proofs.Orderly.{orderly_alike}
-use Rattle.ln_world.proofs.Orderly.{stays_later}
-use Rattle.ln_world.proofs.Orderly.{below_in, alike_later, ends_later, names_dropped, one_moves}
+use Rattle.ln_world.proofs.Dispatched.{item_front}
+use Rattle.ln_world.proofs.Orderly.{IsOrderly, view_of, OneLater, IsLater, AreLater, Any, DispatchersLater, orderly}
+use Rattle.ln_world.proofs.Orderly.{orderly_alike, stays_later, alike_later, ends_later, names_dropped, one_moves}
+use Rattle.ln_world.proofs.Orderly.{later_same, later_then, later_mapped, later_as, dispatchers_stay, below_more}
+use Rattle.ln_world.proofs.Orderly.{offer_in}
 use Rattle.ln_world.proofs.Moving.{falls_side, halts_side}
 use Rattle.ln_world.proofs.Books.{entry_alike}
 
@@ -75,7 +78,7 @@ pub record Holds {K : Type 0} (k : Ghosts K) (n : Node) (w : World K) : Type 0 w
 
 module _ {K : Type 0} (signer : K → Signer) (n : Node) (cs : List (WorldChannel K)) (open_ : Each (IsOpen signer) cs)
     (m : Node) (own : is_node m n ≡ true) (at : ℕ) (act : Role → Move) (of : (s : Role) → IsOfSide (act s) s)
-    (after : Bool → Bool) (more : (b : Bool) → b ≡ true → after b ≡ true)
+    (after : Bool → Bool)
     (leaves : (id : List ℕ) (r : Role) (p : Both K) (h : IsLink id (place_of r p).link)
     → LinkIs (place_of r (moves signer id (act r) p)).link (end_dropped h.end) (after h.halted)) where
   abbrev new : List (WorldChannel K)
@@ -89,8 +92,6 @@ module _ {K : Type 0} (signer : K → Signer) (n : Node) (cs : List (WorldChanne
       ends_later (link_in n at cs) (link_in n at new) h.end (end_dropped h.end)
       (ap saved_of e ∙ ap (λ (z : State K). saved_end z.stage) h.link)
       (ap saved_of k.1 ∙ linked k.0 (end_dropped h.end) (after h.halted) k.2)
-      (λ is. ap has_halted k.1 ∙ k.2.halted
-      ∙ more h.halted (sym (ap (λ (z : State K). z.halted) h.link) ∙ sym (ap has_halted e) ∙ is))
       (omega arith) (names_dropped h.end)
 
   pub lost_later : (d : ℕ) → OneLater (link_in n d cs) (link_in n d new)
@@ -103,31 +104,34 @@ module _ {K : Type 0} (signer : K → Signer) (n : Node) (cs : List (WorldChanne
 
 -- ---- what a lost connection enters
 
-map_fewer : (f : Htlc → Htlc) → ((x : Htlc) → (f x).key ≡ x.key) → ((x : Htlc) → (f x).event ≡ x.event)
-    → (xs : List Htlc) → Fewer xs (map f xs)
-map_fewer f key event [] y m = absurd m
-map_fewer f key event (x ∷ xs) y (inl e) = (
-  x,
-  inl refl,
-  ap (λ (z : Htlc). z.key) (sym e) ∙ key x,
-  ap (λ (z : Htlc). z.event) (sym e) ∙ event x,
-)
-map_fewer f key event (x ∷ xs) y (inr m) = let r = map_fewer f key event xs y m in (r.0, inr r.1, r.2, r.3)
+-- one that waits stays as it is
+kept_later : (c : List ℕ) (told : KeptState) (x : Htlc) → IsLater Any x (htlc_kept c told x)
+kept_later c told x = record {
+  key = refl;
+  event = refl;
+  was = λ e. (e, refl);
+  waits = λ known new. (
+    new.0,
+    ap (λ w. cond (is_outgoing_lost c told.next w) outgoing.Absent w) new.1,
+    ap (incoming_kept (not (same c x.key.channel) || is_among x.key.id told.removes)) new.2,
+  );
+}
 
 pub record BookLater (a b : Book) : Type 0 where
   pub queue : (q : Queued) → IsIn q (table_of b).queue → IsIn q (table_of a).queue
-  pub htlcs : Fewer (table_of a).htlcs (table_of b).htlcs
+  pub htlcs : AreLater Any (table_of a).htlcs (table_of b).htlcs
 
 pub book_alike : (a b : Book) → IsAlike a b → BookLater a b
 book_alike a b h = record {
   queue = λ q m. subst (IsIn q) h.queue m;
-  htlcs = λ y m. (y, subst (IsIn y) h.htlcs m, refl, refl);
+  htlcs = later_as Any (table_of a).htlcs (table_of a).htlcs (table_of b).htlcs h.htlcs
+      (later_same Any (table_of a).htlcs);
 }
 
 pub book_then : (a b c : Book) → BookLater a b → BookLater b c → BookLater a c
 book_then a b c h k = record {
   queue = λ q m. h.queue q (k.queue q m);
-  htlcs = λ y m. let r = k.htlcs y m in let s = h.htlcs r.0 r.1 in (s.0, s.1, r.2 ∙ s.2, r.3 ∙ s.3);
+  htlcs = later_then Any (λ x y e known. tt) (table_of a).htlcs (table_of b).htlcs (table_of c).htlcs h.htlcs k.htlcs;
 }
 
 dropped_later : (c : List ℕ) (told : KeptState) (b : Book) → pending_command_at c (table_of b) ≡ pending_command.Idle
@@ -135,8 +139,9 @@ dropped_later : (c : List ℕ) (told : KeptState) (b : Book) → pending_command
 dropped_later c told b idle = record {
   queue = λ q m. subst (IsIn q) (ap (λ (t : Table). t.queue) (books.one_more (entry.Dropped c told) b)
       ∙ ap (λ d. (put_back_all c told (kept_at c told.decides d (table_of b))).queue) idle) m;
-  htlcs = λ y m. map_fewer (htlc_kept c told) (λ x. refl) (λ x. refl) (table_of b).htlcs y
-      (subst (IsIn y) (dropped_htlcs c told b idle) m);
+  htlcs = later_as Any (table_of b).htlcs (map (htlc_kept c told) (table_of b).htlcs)
+      (table_of (with_entry (entry.Dropped c told) b)).htlcs (dropped_htlcs c told b idle)
+      (later_mapped Any (htlc_kept c told) (kept_later c told) (table_of b).htlcs);
 }
 
 saved_later : (e : End) (o : Option ChannelEnd) (b : Book) → IsCalm b → BookLater b (saved_dropped e o b)
@@ -144,7 +149,7 @@ saved_later e None b h = book_alike b b (alike b)
 saved_later e (Some x) b h = dropped_later (id_of e) (kept_of (id_of e) x b) b (h (id_of e))
 
 module _ {K : Type 0} where
-  fallen_later : (e : End) (d : Dispatchers K) (o : Option (State K)) (xs : List NodeBook)
+  pub fallen_later : (e : End) (d : Dispatchers K) (o : Option (State K)) (xs : List NodeBook)
       → IsCalm (node_at e.node xs).book
       → BookLater (node_at e.node xs).book (node_at e.node (disconnected e d o xs)).book
   fallen_later e d None xs h =
@@ -161,6 +166,18 @@ module _ {K : Type 0} where
           (cond t (node_at e.node xs).book (saved_dropped e (saved_end l.stage) (node_at e.node xs).book))
       cases true = book_alike (node_at e.node xs).book (node_at e.node xs).book (alike (node_at e.node xs).book)
       cases false = saved_later e (saved_end l.stage) (node_at e.node xs).book h
+
+-- what was dispatched stays so
+told_more : (b : Bool) (x : Option ChannelEvent) (y : Option Verdict) (p : Option ChannelEvent) (q : Option Verdict)
+    (o : Offer) → ((z : ChannelEvent) → x ≡ Some z → p ≡ Some z) → ((z : Verdict) → y ≡ Some z → q ≡ Some z)
+    → offer_in (cond b (both_of x y) None) ≡ Some o → offer_in (cond b (both_of p q) None) ≡ Some o
+told_more false x y p q o event verdict e = e
+told_more true None None p q o event verdict e = absurd (cc)
+told_more true None (Some y) p q o event verdict e = absurd (cc)
+told_more true (Some x) None p q o event verdict e = absurd (cc)
+told_more true (Some x) (Some y) p q o event verdict e =
+    subst (λ z. offer_in (both_of z q) ≡ Some o) (sym (event x refl))
+    (subst (λ z. offer_in (both_of (Some x) z) ≡ Some o) (sym (verdict y refl)) e)
 
 module _ {K : Type 0} (k : Ghosts K) where
   same_links : (n : Node) (cs ds : List (WorldChannel K)) → ds ≡ cs → (c : ℕ)
@@ -179,8 +196,8 @@ module _ {K : Type 0} (k : Ghosts K) where
         well = down_well k e v w h.well;
         order = orderly e.node w u
             (lost_later k.signer e.node cs h.well.open_ e.node (itself e.node) e.channel Disconnects
-            falls_side (λ z. z) (λ z is. is)
-            (fall_leaves k.signer e.node cs h.well.open_)) b.queue b.htlcs (λ c i is. is) h.order;
+            falls_side (λ z. z) (fall_leaves k.signer e.node cs h.well.open_)) b.queue b.htlcs
+            (dispatchers_stay e.node w.dispatchers.dispatchers) h.order;
       }
 
   memory_dispatchers : (e : End) (v : Verdict) (d : Dispatchers K) (o : Option ChannelAct)
@@ -198,9 +215,12 @@ module _ {K : Type 0} (k : Ghosts K) where
       record {
         well = act_halts k e w h.well v a;
         order = orderly n w u (links u.dispatchers.channels.channels (halt_or k e w h.well v (unbegun e a w)))
-            (λ q m. subst (IsIn q) b.queue m) (λ y m. (y, subst (IsIn y) b.htlcs m, refl, refl))
-            (λ c i is. subst (λ ds. below_in n ds c i ≡ true)
-            (sym (memory_dispatchers e v w.dispatchers (unbegun e a w))) is) h.order;
+            (λ q m. subst (IsIn q) b.queue m)
+            (later_as Any (view_of n w).htlcs (view_of n w).htlcs (view_of n u).htlcs b.htlcs
+            (later_same Any (view_of n w).htlcs))
+            (subst (DispatchersLater n w.dispatchers.dispatchers)
+            (sym (memory_dispatchers e v w.dispatchers (unbegun e a w)))
+            (dispatchers_stay n w.dispatchers.dispatchers)) h.order;
       }
     where
       links : (ds : List (WorldChannel K)) → Halted k e w h.well ds
@@ -210,7 +230,7 @@ module _ {K : Type 0} (k : Ghosts K) where
           subst (λ xs. OneLater (link_in e.node c w.dispatchers.channels.channels) (link_in e.node c xs)) (sym x.0)
           (lost_later k.signer e.node w.dispatchers.channels.channels h.well.open_ e.node
           (itself e.node) e.channel Halts
-          halts_side (λ z. true) (λ z is. refl)
+          halts_side (λ z. true)
           (halt_leaves k.signer e.node w.dispatchers.channels.channels h.well.open_) c)
 
   -- ---- what is set, and what dispatchers do
@@ -228,31 +248,39 @@ module _ {K : Type 0} (k : Ghosts K) where
 
     pub policy_holds : (m : Node) (p : Policy) → Holds k n w → Holds k n (happens k v (step.Policy m p) w)
     policy_holds m p h = set_holds (happens k v (step.Policy m p) w) (wells.policy_well k n v w m p h.well) refl
-        (set_alike k n v w m (with_policy p) (λ x. refl) (λ x. alike x.book)) (λ c i is. is) h
+        (set_alike k n v w m (with_policy p) (λ x. refl) (λ x. alike x.book))
+        (dispatchers_stay n w.dispatchers.dispatchers) h
 
     pub expect_holds : (m : Node) (i : Invoice) → Holds k n w → Holds k n (happens k v (step.Expect m i) w)
     expect_holds m i h = set_holds (happens k v (step.Expect m i) w) (wells.expect_well k n v w m i h.well) refl
         (set_alike k n v w m (λ b. with_book (with_entry (entry.Expect i) b.book) b) (λ x. refl)
-        (λ x. entry_alike (entry.Expect i) x.book refl refl refl)) (λ c j is. is) h
+        (λ x. entry_alike (entry.Expect i) x.book refl refl refl)) (dispatchers_stay n w.dispatchers.dispatchers) h
 
     pub height_holds : (m : Node) (height : ℕ) → Holds k n w → Holds k n (happens k v (step.Height m height) w)
     height_holds m height h =
         set_holds (happens k v (step.Height m height) w) (wells.height_well k n v w m height h.well) refl
-        (height_by k n v w m height (is_height height) refl) (λ c i is. is) h
+        (height_by k n v w m height (is_height height) refl) (dispatchers_stay n w.dispatchers.dispatchers) h
 
     pub fees_holds : (m : Node) (f : Fees) → Holds k n w → Holds k n (happens k v (step.Fees m f) w)
     fees_holds m f h = set_holds (happens k v (step.Fees m f) w) (wells.fees_well k n v w m f h.well) refl
-        (alike (book_in n w)) (λ c i is. is) h
+        (alike (book_in n w)) (dispatchers_stay n w.dispatchers.dispatchers) h
 
     pub limits_holds : (m : Node) (l : Limits) → Holds k n w → Holds k n (happens k v (step.Limits m l) w)
     limits_holds m l h = set_holds (happens k v (step.Limits m l) w) (wells.limits_well k n v w m l h.well) refl
-        (alike (book_in n w)) (λ c i is. is) h
+        (alike (book_in n w)) (dispatchers_stay n w.dispatchers.dispatchers) h
 
     served_later : (e : End) (o : Option (ℕ × ChannelEvent)) (ds : List Dispatcher)
         → DispatchersLater n ds (served_at e v o ds)
-    served_later e None ds c i is = is
-    served_later e (Some p) ds c i is = one_moves e (serving p.1 v) (λ d. refl)
-        (λ d. let long = length-append d.epoch.served (p.1 ∷ []) in omega (arith, long)) n ds c i is
+    served_later e None ds = dispatchers_stay n ds
+    served_later e (Some p) ds = one_moves e (serving p.1 v) (λ d. refl) (λ d i. (
+      below_more i d (serving p.1 v d)
+          (let long = length-append d.epoch.served (p.1 ∷ []) in omega (arith, long)),
+      λ o is. told_more (nat_le d.epoch.start i) (item (i - d.epoch.start) d.epoch.served)
+          (item (i - d.epoch.start) d.epoch.said) (item (i - d.epoch.start) (d.epoch.served ++ p.1 ∷ []))
+          (item (i - d.epoch.start) (d.epoch.said ++ v ∷ [])) o
+          (λ x. item_front (i - d.epoch.start) d.epoch.served (p.1 ∷ []) x)
+          (λ x. item_front (i - d.epoch.start) d.epoch.said (v ∷ []) x) is,
+    )) n ds
 
     pub dispatch_holds : (e : End) → Holds k n w → Holds k n (happens k v (step.Dispatch e) w)
     dispatch_holds e h = set_holds (happens k v (step.Dispatch e) w) (wells.dispatch_well k n v w e h.well) refl
@@ -260,8 +288,8 @@ module _ {K : Type 0} (k : Ghosts K) where
 
     slotted_later : (e : End) (hook : ℕ) (b : Bool) (ds : List Dispatcher)
         → DispatchersLater n ds (cond b (at_dispatcher e (registered hook) ds) ds)
-    slotted_later e hook true ds c i is = one_moves e (registered hook) (λ d. refl) (λ d. omega arith) n ds c i is
-    slotted_later e hook false ds c i is = is
+    slotted_later e hook true ds = one_moves e (registered hook) (λ d. refl) (λ d i. (λ is. is, λ o is. is)) n ds
+    slotted_later e hook false ds = dispatchers_stay n ds
 
     pub register_holds : (e : End) (hook : ℕ) → Holds k n w → Holds k n (happens k v (step.Register e hook) w)
     register_holds e hook h =
@@ -276,8 +304,7 @@ module _ {K : Type 0} (k : Ghosts K) where
           well = up_well k n c v w h.well;
           order = orderly_alike n w u (λ d. let s = all_same k n c v w h.well d in
               alike_later (link_in n d w.dispatchers.channels.channels)
-              (link_in n d u.dispatchers.channels.channels) s.end
-              s.halted)
+              (link_in n d u.dispatchers.channels.channels) s.end)
               (met_alike k n c v w h.well u.dispatchers (channel c (met_new k n c v w h.well)) w.nodes)
-              (λ d i is. is) h.order;
+              (dispatchers_stay n w.dispatchers.dispatchers) h.order;
         }

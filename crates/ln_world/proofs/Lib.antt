@@ -8,7 +8,6 @@ pub mod Lost
 pub mod Books
 pub mod Anew
 pub mod Same
-pub mod Restarts
 pub mod Downs
 pub mod PendingCommands
 pub mod Wells
@@ -26,10 +25,14 @@ pub mod Orderly
 pub mod Keeping
 pub mod Acting
 pub mod Sending
+pub mod Reloading
 pub mod Given
 pub mod Removing
 pub mod Taking
+pub mod Queued
+pub mod Giving
 pub mod Dispatched
+pub mod Undecided
 pub mod Deciding
 pub mod Resuming
 pub mod Rebuilding

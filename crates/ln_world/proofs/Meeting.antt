@@ -24,14 +24,14 @@ use Rattle.ln_world.specs.Follow.{followed}
 use Rattle.ln_world.specs.World.{World, happens, link_by, link_there, saved_of, met}
 use Rattle.ln_payment_circuits.proofs.Shifts.{side_of as read_side}
 use Rattle.ln_world.specs.Circuit.{has_halted}
+use Rattle.ln_world.proofs.Anew.{small_all}
 use Rattle.ln_world.proofs.Answering.{LinkIs}
 use Rattle.ln_world.proofs.Ends.{IsLink, is_link}
 use Rattle.ln_world.proofs.Moving.{greeted_is, met_x, met_y}
 use Rattle.ln_world.proofs.Scene.{scene_of, link_in, now, elsewhere, there, same_number, each_found}
 use Rattle.ln_world.proofs.Scene.{either}
 use Rattle.ln_world.proofs.Books.{follow_alike, alike, alike_then, IsAlike}
-use Rattle.ln_world.proofs.Same.{IsSame, same_paid, same_agrees}
-use Rattle.ln_world.proofs.Restarts.{small_all}
+use Rattle.ln_world.proofs.Same.{IsSame, same_paid, same_agrees, same_past}
 use Rattle.ln_world.proofs.PendingCommands.{calm_alike}
 use Rattle.ln_world.proofs.Wells.{IsWell, book_in, changed_alike}
 
@@ -117,4 +117,5 @@ module _ {K : Type 0} (k : Ghosts K) (n : Node) (c : ℕ) (v : Verdict) (w : Wor
         calm = calm_alike (book_in n w) (book_in n u) b h.calm;
         paid = same_paid channel_id_of (scene_of n w) (scene_of n u) same h.paid;
         agrees = same_agrees channel_id_of (scene_of n w) (scene_of n u) same h.agrees;
+        past = same_past channel_id_of (scene_of n w) (scene_of n u) same h.past;
       }

@@ -35,15 +35,15 @@ use Rattle.ln_payment_circuits.proofs.Shifts.{side_of as read_side}
 use Rattle.ln_payment_circuits.proofs.Scenes.{HavePayments, by_moves}
 use Rattle.ln_payment_circuits.proofs.Resumed.{HoldAlike}
 use Rattle.ln_payment_circuits.proofs.Agrees.{agrees_fewer, was_same}
+use Rattle.ln_payment_circuits.proofs.Past.{IsPast, past_on, offers_same}
 use Rattle.ln_book_tables.specs.declared.htlc.Htlc.{Htlc}
 use Rattle.ln_world.specs.Circuit.{has_halted}
 use Rattle.ln_world.proofs.Ends.{is_link, x_is, y_is}
 use Rattle.ln_world.proofs.Tidies.{funder_fresh, fundee_fresh}
 use Rattle.ln_world.proofs.Scene.{link_in, links_of, scene_of}
 use Rattle.ln_world.proofs.Anew.{AreSmall}
-use Rattle.ln_world.proofs.Orderly.{Names, OneLater, SideNames, DispatchersLater, orderly, fewer_same}
-use Rattle.ln_world.proofs.Orderly.{stays_later}
-use Rattle.ln_world.proofs.Orderly.{some_join, view_of}
+use Rattle.ln_world.proofs.Orderly.{Names, OneLater, SideNames, DispatchersLater, Any, orderly, stays_later, later_same}
+use Rattle.ln_world.proofs.Orderly.{some_join, view_of, dispatchers_stay}
 use Rattle.ln_world.proofs.Keeping.{Holds}
 
 -- ---- a link with nothing
@@ -213,11 +213,19 @@ module _ {K : Type 0} (n : Node) (cs ds : List (WorldChannel K))
         book = λ x m. (x, m, was_same x);
       })
 
+  pub joined_past : (xs : List Htlc) → IsPast channel_id_of (record { links = S; book = xs })
+      → IsPast channel_id_of (record { links = T; book = xs })
+  joined_past xs = past_on channel_id_of (record { links = S; book = xs }) (record { links = T; book = xs })
+      (λ c halted. elim (joins c) [
+        | inl same ↦ (ap has_halted (sym same) ∙ halted, ap (λ z. option_map read_side (saved_of z)) same)
+        | inr r ↦ absurd (let no : true ≡ false = sym halted ∙ ap has_halted r.1.1 ∙ r.1.2.awake in cc)
+      ])
+      (λ q c i y halted. offers_same channel_id_of xs xs refl q c i y)
+
   pub joined_later : (d : ℕ) → OneLater (link_in n d cs) (link_in n d ds)
   joined_later d = elim (joins d) [
     | inl same ↦ stays_later (link_in n d cs) (link_in n d ds) same
     | inr r ↦ record {
-      halted = λ is. absurd (let no : false ≡ true = sym (ap has_halted r.0) ∙ is in cc);
       decided = subst (λ z. decided_of (saved_of z) ≤ decided_of (saved_of (link_in n d ds))) (sym r.0) (omega arith);
       names = λ a. subst (λ z. SideNames (option_map read_side (saved_of z))) (sym r.1.1)
           (subst (λ z. SideNames (option_map read_side z)) (sym r.1.2.saved)
@@ -271,7 +279,7 @@ module _ {K : Type 0} (k : Ghosts K) (n : Node) (v : Verdict) (w : World K) (h :
     dispatchers_by : (b : Bool) → DispatchersLater n w.dispatchers.dispatchers
         (cond b (w.dispatchers.dispatchers ++ new_dispatchers o.channel o.funder o.fundee) w.dispatchers.dispatchers)
     dispatchers_by true = some_join n w.dispatchers.dispatchers (new_dispatchers o.channel o.funder o.fundee)
-    dispatchers_by false = λ d i is. is
+    dispatchers_by false = dispatchers_stay n w.dispatchers.dispatchers
 
     pub open_holds : Holds k n u
     open_holds = record {
@@ -281,7 +289,8 @@ module _ {K : Type 0} (k : Ghosts K) (n : Node) (v : Verdict) (w : World K) (h :
         calm = h.well.calm;
         paid = joined_paid n cs u.dispatchers.channels.channels joins_so (scene_of n w).book h.well.paid;
         agrees = joined_agrees n cs u.dispatchers.channels.channels joins_so (scene_of n w).book h.well.agrees;
+        past = joined_past n cs u.dispatchers.channels.channels joins_so (scene_of n w).book h.well.past;
       };
       order = orderly n w u (joined_later n cs u.dispatchers.channels.channels joins_so) (λ q m. m)
-          (fewer_same (view_of n w).htlcs) (dispatchers_by (may_open o w.dispatchers.channels)) h.order;
+          (later_same Any (view_of n w).htlcs) (dispatchers_by (may_open o w.dispatchers.channels)) h.order;
     }

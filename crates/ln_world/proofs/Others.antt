@@ -42,8 +42,7 @@ use Rattle.ln_world.specs.World.{end_at, resumes, link_by, link_there, reported,
 use Rattle.ln_world.proofs.Moving.{IsOfSide, other_stays}
 use Rattle.ln_world.proofs.Scene.{link_in, other_node, other_all, same_number, lookup_map, side_apart}
 use Rattle.ln_world.proofs.Books.{other_book}
-use Rattle.ln_world.proofs.Anew.{AreSmall}
-use Rattle.ln_world.proofs.Restarts.{small_all}
+use Rattle.ln_world.proofs.Anew.{AreSmall, small_all}
 use Rattle.ln_world.proofs.Falling.{others_well}
 use Rattle.ln_world.proofs.Wells.{IsWell}
 use Rattle.ln_world.proofs.Moving.{acts_side, stops_side, halts_side, restarts_side}

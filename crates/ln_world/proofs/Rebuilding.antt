@@ -55,7 +55,7 @@ use Rattle.ln_world.proofs.Keeping.{Holds}
 -- ---- each HTLC that is read
 
 abbrev IsReadSo : Htlc → Type 0
-IsReadSo y = (y.event ≡ no_event) × IsKeyed y.key
+IsReadSo y = ((y.event ≡ no_event) × (y.decided ≡ true)) × IsKeyed y.key
 
 decided_all : (ch : List ℕ) (l : Log) (c : ℕ) → ch ≡ channel_id_of c → (ds : List Decision)
     → All IsReadSo (decided_in ch l ds)
@@ -66,7 +66,7 @@ decided_all ch l c at (d ∷ ds) = cases (add_with d.id (peer_updates l)) (decid
         → All IsReadSo (cons_option (decided_by ch d.mark (incoming_in d.id l) o) (decided_in ch l ds))
     cases None rest = rest
     cases (Some a) rest = (
-      (refl, (record { channel = c; id = a.id }, ap (λ z. record { channel = z; id = a.id }) at)),
+      ((refl, refl), (record { channel = c; id = a.id }, ap (λ z. record { channel = z; id = a.id }) at)),
       rest,
     )
 
@@ -96,7 +96,7 @@ left_each all (g ∷ ls) h = cases (is_read g.origin all) (left_each all ls h.1)
   where
     cases : (b : Bool) → All IsReadSo (left all ls) → All IsReadSo (cond b (left all ls) (htlc_left g ∷ left all ls))
     cases true rest = rest
-    cases false rest = ((refl, h.0), rest)
+    cases false rest = (((refl, refl), h.0), rest)
 
 -- of each end
 abbrev IsEndSo : ℕ × ChannelEnd → Type 0
@@ -212,9 +212,10 @@ module _ {K : Type 0} (k : Ghosts K) (n : Node) (w u : World K) (h : Holds k n w
           (λ a. refl));
       paid = restart channel_id_of one_id (scene_of n w) (scene_of n u) es all_drop none_halted back begun h.well.paid;
       agrees = agrees_rebuilt channel_id_of one_id (scene_of n u) es back begun;
+      past = λ q c i x o halted. absurd (let no : true ≡ false = sym halted ∙ none_halted c in cc);
     };
     order = record {
-      queued = λ c q m at. absurd (subst (IsIn q) none_queued m);
+      queued = λ c q m at free. absurd (subst (IsIn q) none_queued m);
       dated = λ c y m at. inl (each_read y m).0;
       keyed = λ y m. (each_read y m).1;
       named = sides_name;

@@ -10,6 +10,7 @@ use Rattle.ln_payment_circuits.proofs.Entries.{HasEntry}
 use Rattle.ln_payment_circuits.proofs.Scenes.{Scene, HavePayments, by_moves}
 use Rattle.ln_payment_circuits.proofs.Resumed.{HoldAlike}
 use Rattle.ln_payment_circuits.proofs.Agrees.{agrees_fewer, was_same}
+use Rattle.ln_payment_circuits.proofs.Past.{IsPast, past_on, offers_same}
 
 -- one to one
 pub one_id : (c d : ℕ) → channel_id_of c ≡ channel_id_of d → c ≡ d
@@ -49,3 +50,7 @@ module _ (id_of : ℕ → List ℕ) (s t : Scene) (e : IsSame s t) where
     links = λ c Y is d m. (Y, sym (e.sides c) ∙ is, m);
     book = λ x m. (x, subst (λ xs. IsIn x xs) e.book m, was_same x);
   }) a
+
+  pub same_past : IsPast id_of s → IsPast id_of t
+  same_past = past_on id_of s t (λ c halted. (sym (e.halted c) ∙ halted, e.sides c))
+      (λ h c i y halted. offers_same id_of s.book t.book e.book h c i y)

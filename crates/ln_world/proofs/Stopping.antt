@@ -48,14 +48,14 @@ use Rattle.ln_world.proofs.Scene.{link_in, lookup_map, now, same_number as numbe
 use Rattle.ln_world.proofs.Lost.{place}
 use Rattle.ln_world.proofs.Books.{own_book, node_is, alike, IsAlike}
 use Rattle.ln_world.proofs.Wells.{book_in}
-use Rattle.ln_world.proofs.Anew.{AreSmall}
-use Rattle.ln_world.proofs.Restarts.{small_all}
+use Rattle.ln_world.proofs.Anew.{AreSmall, small_all}
 use Rattle.ln_world.proofs.Keeping.{Holds}
 use Rattle.ln_world.proofs.Refusing.{free_is}
 use Rattle.ln_world.proofs.Removing.{due_books}
 use Rattle.ln_world.proofs.Given.{first_is}
 use Rattle.ln_world.proofs.Acting.{done_by}
-use Rattle.ln_world.proofs.Taking.{quiet_holds, queued_there, queued_dispatched}
+use Rattle.ln_world.proofs.Giving.{quiet_holds}
+use Rattle.ln_world.proofs.Taking.{queued_there, queued_dispatched}
 use Rattle.ln_world.proofs.Rebuilding.{anew_holds}
 
 module _ {K : Type 0} (k : Ghosts K) where
@@ -292,7 +292,7 @@ module _ {K : Type 0} (k : Ghosts K) where
         by (Some q) found =
             let in_queue = queued_there e (book_in n w) h.well.calm q found o c first in
             queued_dispatched e (book_in n w) h.well.calm q found o c first w.dispatchers
-            (h.order.queued e.channel q in_queue.0 in_queue.1).1
+            (λ free. (h.order.queued e.channel q in_queue.0 in_queue.1 free).0)
 
     take_by : (t : Bool) → is_some (end_at e w.dispatchers) ≡ t → (f : Option (Out × Command))
         → first_in e (book_in n w) ≡ f

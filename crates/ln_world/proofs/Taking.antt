@@ -1,7 +1,6 @@
 -- An end of the node takes the first command of the node's book.
-use Rattle.std.proofs.Common.{◌≡◌, inl, inr, ℕ, List, [], ◌∷◌, refl, sym, ap, ◌∙◌, subst}
+use Rattle.std.proofs.Common.{◌≡◌, inl, inr, ℕ, List, [], ◌∷◌, filter, refl, sym, ap, ◌∙◌, subst}
 use Rattle.std.proofs.Common.{Bool, true, false, cond, not, ◌==◌, nat_lt, Option, Some, None, Result, Ok, Err}
-use Rattle.std.specs.Prelude.{option_map, is_some}
 use Rattle.std.specs.List.{find}
 use Rattle.ln_refusals.specs.declared.refusal.Refusal.{Refusal}
 use Rattle.ln_refusals.specs.declared.refusal.Refusal.TheVariants as refusal
@@ -22,18 +21,20 @@ use Rattle.ln_channel.specs.State.{State}
 use Rattle.ln_channel.specs.Step.{Done, asked as asked_of, is_of_records}
 use Rattle.ln_book_tables.specs.declared.htlc.Htlc.{Htlc}
 use Rattle.ln_book_tables.specs.declared.htlc.Key.{Key}
+use Rattle.ln_book_tables.specs.declared.htlc.OutgoingLeg.{OutgoingLeg}
 use Rattle.ln_book_tables.specs.declared.htlc.OutgoingLeg.TheVariants as outgoing
 use Rattle.ln_book_tables.specs.declared.htlc.IncomingLeg.TheVariants as back
 use Rattle.ln_book_tables.specs.declared.entry.Out.{Out}
 use Rattle.ln_book_tables.specs.declared.entry.Out.TheVariants as out
 use Rattle.ln_book_tables.specs.declared.entry.Queued.{Queued}
-use Rattle.ln_book_tables.specs.Replay.{Table, table_of, is_htlc, is_queued, is_resumed, is_later, left_out}
+use Rattle.ln_book_tables.specs.Replay.{Table, table_of, same_key, is_htlc, is_queued, is_resumed, is_later, left_out}
+use Rattle.ln_book_tables.specs.Replay.{changed_first}
 use Rattle.ln_book_tables.specs.Replay.{with_outgoing}
 use Rattle.ln_book_tables.specs.Replay.{with_incoming, without_first}
 use Rattle.ln_book_tables.specs.Replay.{queue_behind, refused_by, taken_by, is_settled, has_nothing_offered, is_open}
 use Rattle.ln_book_tables.specs.Replay.{put_outgoing}
 use Rattle.ln_book_tables.specs.Replay.{put_incoming, same}
-use Rattle.ln_book.specs.Commands.{first_of, is_queued_in, queued_command, with_taken}
+use Rattle.ln_book.specs.Commands.{first_of, is_queued_in, queued_command}
 use Rattle.ln_book.specs.Commands.{command_of, is_resolved_in, forwards_in, removal_by, add_of, forget_by}
 use Rattle.ln_world_channels.specs.declared.step.Act.TheVariants as channel_act
 use Rattle.ln_world_channels.specs.declared.step.Node.{Node}
@@ -41,23 +42,21 @@ use Rattle.ln_world_channels.specs.declared.step.End.{End}
 use Rattle.ln_world_channels.specs.Settings.{channel_id_of}
 use Rattle.ln_world_channels.specs.WorldChannel.{WorldChannel}
 use Rattle.ln_world_dispatch.specs.Dispatcher.{dispatcher_at}
-use Rattle.ln_world_dispatch.specs.World.{World as Dispatchers, is_dispatched, is_below_next}
-use Rattle.ln_world.specs.Node.{Book, services, with_book}
+use Rattle.ln_world_dispatch.specs.World.{World as Dispatchers, is_dispatched, is_below_next, decided_of}
+use Rattle.ln_world.specs.Node.{Book, services}
 use Rattle.ln_book.specs.Answers.{command_subject, next_id}
-use Rattle.ln_world.specs.declared.node.NodeBook.{NodeBook}
-use Rattle.ln_world.specs.declared.step.Act.TheVariants as act
-use Rattle.ln_world.specs.declared.step.Step.TheVariants as step
-use Rattle.ln_world.specs.World.{World, id_of, first_in, happens, end_at, saved_of, handed, handed_out, taking}
-use Rattle.ln_world.specs.World.{command_by, sent_or}
-use Rattle.ln_payment_circuits.specs.Snapshot.{IsIn, origin, IsFit, key_at}
+use Rattle.ln_world.specs.World.{World, id_of, first_in, saved_of, handed_out}
+use Rattle.ln_payment.specs.Parts.{Note}
+use Rattle.ln_payment_circuits.specs.Snapshot.{Incoming, IsIn, origin, IsFit, key_at, key_of}
 use Rattle.ln_payment_circuits.proofs.Links.{Links, Changed}
-use Rattle.ln_payment_circuits.proofs.Lists.{of_picked}
+use Rattle.ln_payment_circuits.proofs.Lists.{of_picked, picked, among_changed}
 use Rattle.ln_payment_circuits.proofs.Shifts.{side_of as read_side}
-use Rattle.ln_payment_circuits.proofs.Entries.{same_is}
-use Rattle.ln_payment_circuits.proofs.Due.{first_is as due_first, IsDue, IsDueBy, Forgets, Offers, Removes, due_by}
+use Rattle.ln_payment_circuits.proofs.Entries.{same_is, is_key, AreEntries, HasEntry}
+use Rattle.ln_payment_circuits.proofs.Due.{IsDue, IsDueBy, Forgets, Offers, Removes, due_by}
 use Rattle.ln_payment_circuits.proofs.Due.{forgets_so}
 use Rattle.ln_payment_circuits.proofs.Scenes.{Scene, HavePayments, offered, removed}
 use Rattle.ln_payment_circuits.proofs.Resumed.{HoldAlike}
+use Rattle.ln_payment_circuits.proofs.Past.{IsPast, OldOffers, offers_same, offers_left, offers_changed, offers_as}
 use Rattle.ln_payment_circuits.proofs.Answers.{forgotten, add_refused, add_left, removal_refused, forget_refused}
 use Rattle.ln_payment_circuits.proofs.Moments.{first_kept}
 use Rattle.ln_payment_circuits.proofs.Held.{found_among}
@@ -69,23 +68,18 @@ use Rattle.ln_world.proofs.Ends.{IsLink}
 use Rattle.ln_world.proofs.PendingCommands.{IsCalm, turned_htlcs, turned_queue}
 use Rattle.ln_world.proofs.Same.{one_id}
 use Rattle.ln_world.proofs.Doing.{between, goes_on, saved_paid}
-use Rattle.ln_world.proofs.Wells.{book_in}
-use Rattle.ln_world.proofs.Orderly.{IsOrderly, view_at, AllName, Names, names_more}
+use Rattle.ln_world.proofs.Orderly.{IsOrderly, AreLater, Any, WaitsAt, view_at, AllName, Names, names_more, later_same}
+use Rattle.ln_world.proofs.Orderly.{later_left, later_changed, later_as}
 use Rattle.ln_world.proofs.Keeping.{Holds}
 use Rattle.ln_world.proofs.Hearing.{AreKin, kin_changed, kin_left, itself}
 use Rattle.ln_world.proofs.Refusing.{IsBooks}
 use Rattle.ln_world.proofs.Obeyed.{by_row, proposed, noted, IsProposed, IsNoted}
-use Rattle.ln_world.proofs.Refusing.{free_is}
-use Rattle.ln_world.proofs.Removing.{due_books}
 use Rattle.ln_world.proofs.Removing.{IsAdding, adds_so}
 use Rattle.ln_world.proofs.Given.{new, x0, y0, then, answer, answer_row, mine, turn_now, of_link, given_holds}
 use Rattle.ln_world.proofs.Given.{refused_paid}
-use Rattle.ln_world.proofs.Given.{agrees_now, order_now, first_is}
-use Rattle.ln_world.proofs.Acting.{done_by}
-use Rattle.ln_world.proofs.Sending.{idle_holds}
-use Rattle.ln_world.proofs.Books.{own_book, alike, IsAlike}
-use Rattle.ln_world.proofs.Orderly.{orderly_alike, stays_later, below_in}
-use Rattle.ln_world.proofs.Wells.{same_well}
+use Rattle.ln_world.proofs.Given.{agrees_now, order_now, past_then, first_is}
+use Rattle.ln_world.proofs.Plainly.{awake_commanded}
+use Rattle.ln_world.proofs.Acting.{done_by, OffersAwake}
 
 -- ---- what is queued then was queued
 
@@ -115,8 +109,25 @@ queue_fewer c (Err r) o t q m = cases (is_later r) m
     cases true k = k
     cases false k = behind_fewer c o t.queue q k
 
-same_kin : (xs : List Htlc) → AreKin xs xs
+pub same_kin : (xs : List Htlc) → AreKin xs xs
 same_kin xs y m = (y, m, itself y)
+
+-- a book has one HTLC of a key at most
+pub same_entry : (h : Incoming) (xs : List Htlc) (o : Option Note) → HasEntry channel_id_of h xs o → (z y : Htlc)
+    → IsIn z xs → IsIn y xs → is_htlc (key_of channel_id_of h) z ≡ true → is_htlc (key_of channel_id_of h) y ≡ true
+    → z ≡ y
+same_entry h xs o k z y z_in y_in z_hit y_hit =
+    cases (filter p xs) (picked p z xs z_in z_hit) (picked p y xs y_in y_hit) k
+  where
+    p : Htlc → Bool
+    p = is_htlc (key_of channel_id_of h)
+
+    cases : (ys : List Htlc) → IsIn z ys → IsIn y ys → AreEntries channel_id_of ys o → z ≡ y
+    cases [] a b k = absurd a
+    cases (x ∷ []) (inl a) (inl b) k = sym a ∙ b
+    cases (x ∷ []) (inl a) (inr b) k = absurd b
+    cases (x ∷ []) (inr a) b k = absurd a
+    cases (x ∷ q ∷ ys) a b k = absurd k
 
 module _ {K : Type 0} (k : Ghosts K) (e : End) (v : Verdict) (w : World K) (h : Holds k e.node w) (b : Book)
     (calm : IsCalm b)
@@ -129,6 +140,10 @@ module _ {K : Type 0} (k : Ghosts K) (e : End) (v : Verdict) (w : World K) (h : 
       links = links_of e.node w.dispatchers.channels.channels;
       book =
           (table_of b).htlcs;
+    }))
+    (past0 : IsPast channel_id_of (record {
+      links = links_of e.node w.dispatchers.channels.channels;
+      book = (table_of b).htlcs;
     }))
     (order0 : IsOrderly (view_at e.node w.dispatchers.channels.channels w.dispatchers.dispatchers b))
     (o : Out) (c : Command)
@@ -176,40 +191,69 @@ module _ {K : Type 0} (k : Ghosts K) (e : End) (v : Verdict) (w : World K) (h : 
 
   -- ---- what is kept, by the answer
 
-  kept : (q : Result Done Refusal) → R ≡ q → IsPaidAt N (turned_htlcs (id_of e) (by_row about_it q) o t)
-      → ((d : Decision) → IsIn d Y.ledger.decisions → IsIn d X.ledger.decisions)
-      → AreKin t.htlcs (turned_htlcs (id_of e) (by_row about_it q) o t)
+  pub kept_with : (q : Result Done Refusal) → R ≡ q → IsPaidAt N (turned_htlcs (id_of e) (by_row about_it q) o t)
+      → HoldAlike channel_id_of (record {
+        links = links_of n N;
+        book = turned_htlcs (id_of e) (by_row about_it q) o t;
+      })
+      → OffersAwake (links_of n N) t.htlcs (turned_htlcs (id_of e) (by_row about_it q) o t)
+      → (Known : Htlc → Type 0) → AreLater Known t.htlcs (turned_htlcs (id_of e) (by_row about_it q) o t)
+      → ((d : ℕ) (z : Htlc) → IsIn z t.htlcs → z.key.channel ≡ channel_id_of d
+      → WaitsAt (view_at n cs w.dispatchers.dispatchers b) d z
+      → decided_of (saved_of (link_in n d N)) ≡ decided_of (saved_of (link_in n d cs)) → Known z)
       → (AllName X.dance.log.own → AllName Y.dance.log.own) → Holds k n U
-  kept q is paid fewer kin names =
+  kept_with q is paid agrees offers Known later known names =
       let now : turned_htlcs (id_of e) (answer k e v w h b calm o c books first may s there r) o t
       ≡ turned_htlcs (id_of e) (by_row about_it q) o t = ap (λ z. turned_htlcs (id_of e) (by_row about_it z) o t) is in
-      let kin_now : AreKin t.htlcs (turned_htlcs (id_of e) (answer k e v w h b calm o c books first may s there r) o t)
-      =
-      subst (AreKin t.htlcs) (sym now) kin in
       given_holds k e v w h b calm o c books first may s there r
       (subst (IsPaidAt N) (sym now) paid)
-      (agrees_now k e v w h b calm o c books first may s there r fewer t.htlcs
-      (turned_htlcs (id_of e) (answer k e v w h b calm o c books first may s there r) o t) kin_now agrees0)
-      (order_now k e v w h b calm o c books first may s there r names b
+      (subst (λ hs. HoldAlike channel_id_of (record { links = links_of n N; book = hs })) (sym now) agrees)
+      (past_then k e v w h b calm o c books first may s there r t.htlcs
+      (turned_htlcs (id_of e) (answer k e v w h b calm o c books first may s there r) o t)
+      (subst (OffersAwake (links_of n N) t.htlcs) (sym now) offers) past0)
+      (order_now k e v w h b calm o c books first may s there r names Known b
       (λ z m. queue_fewer (id_of e) (answer k e v w h b calm o c books first may s there r) o t z m)
-      (λ z m. let was = kin_now z m in (was.0, was.1, was.2.key, was.2.event)) order0)
+      (later_as Known t.htlcs (turned_htlcs (id_of e) (by_row about_it q) o t)
+      (turned_htlcs (id_of e) (answer k e v w h b calm o c books first may s there r) o t) now later) known order0)
+
+  pub kept : (q : Result Done Refusal) → R ≡ q → IsPaidAt N (turned_htlcs (id_of e) (by_row about_it q) o t)
+      → ((d : Decision) → IsIn d Y.ledger.decisions → IsIn d X.ledger.decisions)
+      → AreKin t.htlcs (turned_htlcs (id_of e) (by_row about_it q) o t)
+      → OffersAwake (links_of n N) t.htlcs (turned_htlcs (id_of e) (by_row about_it q) o t) → (Known : Htlc → Type 0)
+      → AreLater Known t.htlcs (turned_htlcs (id_of e) (by_row about_it q) o t)
+      → ((d : ℕ) (z : Htlc) → IsIn z t.htlcs → z.key.channel ≡ channel_id_of d
+      → WaitsAt (view_at n cs w.dispatchers.dispatchers b) d z
+      → decided_of (saved_of (link_in n d N)) ≡ decided_of (saved_of (link_in n d cs)) → Known z)
+      → (AllName X.dance.log.own → AllName Y.dance.log.own) → Holds k n U
+  kept q is paid fewer kin offers Known later known names = kept_with q is paid
+      (agrees_now k e v w h b calm o c books first may s there r fewer t.htlcs
+      (turned_htlcs (id_of e) (by_row about_it q) o t) kin agrees0) offers Known later known names
 
   -- ---- it is refused
 
   refused : (q : Refusal) → R ≡ Err q → Y ≡ X → IsPaidAt cs (cond (is_later (refusal_number q)) t.htlcs
       (refused_by (id_of e) (refusal_number q) o t.htlcs))
       → AreKin t.htlcs (cond (is_later (refusal_number q)) t.htlcs (refused_by (id_of e) (refusal_number q) o t.htlcs))
-      → Holds k n U
-  refused q is same paid kin = kept (Err q) is
+      → OldOffers channel_id_of t.htlcs
+      (cond (is_later (refusal_number q)) t.htlcs (refused_by (id_of e) (refusal_number q) o t.htlcs))
+      → AreLater Any t.htlcs
+      (cond (is_later (refusal_number q)) t.htlcs (refused_by (id_of e) (refusal_number q) o t.htlcs)) → Holds k n U
+  refused q is same paid kin offers later = kept (Err q) is
       (refused_paid k e v w h b calm o c books first may s there r same (cond (is_later (refusal_number q)) t.htlcs
       (refused_by (id_of e) (refusal_number q) o t.htlcs)) paid)
       (λ d m. subst (λ (z : ChannelEnd). IsIn d z.ledger.decisions) same m) kin
+      (λ h0 d i y halted. offers h0 d i y) Any later
+      (λ d z m at next still. tt)
       (λ a. subst (λ (z : ChannelEnd). AllName z.dance.log.own) (sym same) a)
 
-  refused_by_it : (q : Refusal) → R ≡ Err q → Y ≡ X → IsPaidAt cs (refused_by (id_of e) (refusal_number q) o t.htlcs)
-      → AreKin t.htlcs (refused_by (id_of e) (refusal_number q) o t.htlcs) → Holds k n U
-  refused_by_it q is same paid kin =
+  pub refused_by_it : (q : Refusal) → R ≡ Err q → Y ≡ X
+      → IsPaidAt cs (refused_by (id_of e) (refusal_number q) o t.htlcs)
+      → AreKin t.htlcs (refused_by (id_of e) (refusal_number q) o t.htlcs)
+      → OldOffers channel_id_of t.htlcs (refused_by (id_of e) (refusal_number q) o t.htlcs)
+      → AreLater Any t.htlcs (refused_by (id_of e) (refusal_number q) o t.htlcs) → Holds k n U
+  refused_by_it q is same paid kin offers later =
       refused q is same (cases (is_later (refusal_number q))) (by_kin (is_later (refusal_number q)))
+      (by_offers (is_later (refusal_number q))) (by_later (is_later (refusal_number q)))
     where
       cases : (l : Bool) → IsPaidAt cs (cond l t.htlcs (refused_by (id_of e) (refusal_number q) o t.htlcs))
       cases true = paid0
@@ -219,46 +263,83 @@ module _ {K : Type 0} (k : Ghosts K) (e : End) (v : Verdict) (w : World K) (h : 
       by_kin true = same_kin t.htlcs
       by_kin false = kin
 
+      by_offers : (l : Bool) → OldOffers channel_id_of t.htlcs
+          (cond l t.htlcs (refused_by (id_of e) (refusal_number q) o t.htlcs))
+      by_offers true = offers_same channel_id_of t.htlcs t.htlcs refl
+      by_offers false = offers
+
+      by_later : (l : Bool) → AreLater Any t.htlcs (cond l t.htlcs (refused_by (id_of e) (refusal_number q) o t.htlcs))
+      by_later true = later_same Any t.htlcs
+      by_later false = later
+
   -- one that has halted
   pub halted_takes : s.halted ≡ true → Holds k n U
   halted_takes is =
       let row : R ≡ Err refusal.Halted =
       ap (λ z. cond z (Err refusal.Halted) (asked_of (k.signer s.keys) s c)) is in
       let steps = subst (RowSteps X Y) row (turn_now k e v w h b calm o c books first may s there r).steps in
-      refused refusal.Halted row steps paid0 (same_kin t.htlcs)
+      refused refusal.Halted row steps paid0 (same_kin t.htlcs) (offers_same channel_id_of t.htlcs t.htlcs refl)
+      (later_same Any t.htlcs)
 
   -- ---- it is taken
 
   module _ (d : Done) (is : R ≡ Ok d) (st : RowSteps X Y (Ok d)) where
-    abbrev f : ChannelEnd
+    abbrev pub f : ChannelEnd
     f = st.0
 
-    g : Changed (origin channel_id_of) e.channel (read_side X) (read_side (based f)) (links_of n cs) (links_of n N)
+    pub g : Changed (origin channel_id_of) e.channel (read_side X) (read_side (based f)) (links_of n cs) (links_of n N)
     g =
         subst (λ q. Changed (origin channel_id_of) e.channel (read_side X) (read_side q) (links_of n cs)
         (links_of n N)) st.3
         (turn_now k e v w h b calm o c books first may s there r).changed
 
-    abbrev mid : Links
+    abbrev pub mid : Links
     mid = between e.channel (read_side f) (links_of n cs)
 
-    to_mid : Changed (origin channel_id_of) e.channel (read_side X) (read_side f) (links_of n cs) mid
+    pub to_mid : Changed (origin channel_id_of) e.channel (read_side X) (read_side f) (links_of n cs) mid
     to_mid = goes_on e.channel X f (links_of n cs) (links_of n N) g
+
+    -- its link works
+    awake_now : (links_of n N).halted e.channel ≡ false
+    awake_now = (turn_now k e v w h b calm o c books first may s there r).changed.halted e.channel
+        ∙ ap has_halted there ∙ awake_commanded (k.signer s.keys) s c d is
 
     taken : (hs : List Htlc) → taken_by (id_of e) about_it o t.queue t.htlcs ≡ hs
         → HavePayments channel_id_of (record { links = mid; book = hs }) → f.ledger.decisions ≡ X.ledger.decisions
-        → AreKin t.htlcs hs → (AllName X.dance.log.own → AllName f.dance.log.own) → Holds k n U
-    taken hs turned paid decisions kin names = kept (Ok d) is
+        → AreKin t.htlcs hs → OffersAwake (links_of n N) t.htlcs hs → AreLater Any t.htlcs hs
+        → (AllName X.dance.log.own → AllName f.dance.log.own) → Holds k n U
+    taken hs turned paid decisions kin offers later names = kept (Ok d) is
         (subst (IsPaidAt N) (sym turned) (saved_paid e.channel X f (links_of n cs) (links_of n N) g
         (first_kept X f fit st.2) hs paid))
         (λ q m. subst (IsIn q) decisions (of_picked (is_open_decision (entering f)) q f.ledger.decisions
         (subst (λ (z : ChannelEnd). IsIn q z.ledger.decisions) st.3 m)))
-        (subst (AreKin t.htlcs) (sym turned) kin)
+        (subst (AreKin t.htlcs) (sym turned) kin) (subst (OffersAwake (links_of n N) t.htlcs) (sym turned) offers) Any
+        (subst (AreLater Any t.htlcs) (sym turned) later)
+        (λ d z m at next still. tt)
         (λ a. subst (λ (z : ChannelEnd). AllName z.dance.log.own) (sym st.3) (names a))
 
   -- ---- what is due about an HTLC of the book
 
   module _ (z : Htlc) (m : IsIn z t.htlcs) (dec : z.decided ≡ true) where
+    -- no other one has its key
+    alone : (y : Htlc) → IsIn y t.htlcs → is_htlc z.key y ≡ true → y.decided ≡ true
+    alone y y_in hit =
+        let q = order0.keyed z m in
+        ap (λ (i : Htlc). i.decided) (sym (same_entry q.0 t.htlcs (paid0 q.0).0.note (paid0 q.0).1.note z y m y_in
+        (ap (same_key (key_of channel_id_of q.0)) q.1 ∙ is_key (key_of channel_id_of q.0))
+        (ap (λ j. same_key j y.key) (sym q.1) ∙ hit)))
+        ∙ dec
+
+    -- so one that waits isn't changed by what is changed about it
+    changed_later : (f : Htlc → Htlc) → ((y : Htlc) → (f y).key ≡ y.key) → ((y : Htlc) → (f y).event ≡ y.event)
+        → ((y : Htlc) → (f y).decided ≡ y.decided) → AreLater Any t.htlcs (changed_first (is_htlc z.key) f t.htlcs)
+    changed_later f key event decided = later_changed Any (is_htlc z.key) f t.htlcs (λ y y_in hit. record {
+      key = key y;
+      event = event y;
+      was = λ u. absurd (let no : true ≡ false = sym (decided y ∙ alone y y_in hit) ∙ u in cc);
+      waits = λ known new. absurd (let no : true ≡ false = sym (alone y y_in hit) ∙ new.0 in cc);
+    })
+
     steps_now : (q : Result Done Refusal) → R ≡ q → RowSteps X Y q
     steps_now q is = subst (RowSteps X Y) is (turn_now k e v w h b calm o c books first may s there r).steps
 
@@ -285,6 +366,10 @@ module _ {K : Type 0} (k : Ghosts K) (e : End) (v : Verdict) (w : World K) (h : 
             (ap (λ p. refused_by (id_of e) (refusal_number q) p t.htlcs) out_is) paid0)
             (subst (λ p. AreKin t.htlcs (refused_by (id_of e) (refusal_number q) p t.htlcs)) (sym out_is)
             (kin_left (is_htlc z.key) t.htlcs))
+            (subst (λ p. OldOffers channel_id_of t.htlcs (refused_by (id_of e) (refusal_number q) p t.htlcs))
+            (sym out_is) (offers_left channel_id_of (is_htlc z.key) t.htlcs))
+            (subst (λ p. AreLater Any t.htlcs (refused_by (id_of e) (refusal_number q) p t.htlcs)) (sym out_is)
+            (later_left Any (is_htlc z.key) t.htlcs))
         cases (Ok d) is =
             let st = steps_now (Ok d) is in
             let p = at_end (IsNoted X c) noted_so d is in
@@ -302,6 +387,8 @@ module _ {K : Type 0} (k : Ghosts K) (e : End) (v : Verdict) (w : World K) (h : 
             (order0.keyed z m).1 settled over cmd j.1 (ap (λ (q : ChannelEnd). q.ledger.results) f_is)
             (ap (λ (q : ChannelEnd). q.ledger.decisions) f_is) refl paid0)
             (ap (λ (q : ChannelEnd). q.ledger.decisions) f_is) (kin_left (is_htlc z.key) t.htlcs)
+            (λ q c i y halted. offers_left channel_id_of (is_htlc z.key) t.htlcs q c i y)
+            (later_left Any (is_htlc z.key) t.htlcs)
             (λ a. subst (λ (q : ChannelEnd). AllName q.dance.log.own) (sym f_is) a)
 
     -- an HTLC goes out
@@ -343,7 +430,8 @@ module _ {K : Type 0} (k : Ghosts K) (e : End) (v : Verdict) (w : World K) (h : 
 
         cases : (q : Result Done Refusal) → R ≡ q → Holds k n U
         cases (Err q) is = refused_by_it q is (steps_now (Err q) is) (by_number (nat_lt (refusal_number q) 47) refl)
-            (kin_number (nat_lt (refusal_number q) 47) refl)
+            (kin_number (nat_lt (refusal_number q) 47) refl) (offers_number (nat_lt (refusal_number q) 47) refl)
+            (later_number (nat_lt (refusal_number q) 47) refl)
           where
             book_is : refused_by (id_of e) (refusal_number q) o t.htlcs ≡ cond (nat_lt (refusal_number q) 47)
                 (with_outgoing z.key outgoing.Refused t.htlcs) (left_out (is_htlc z.key) t.htlcs)
@@ -377,6 +465,31 @@ module _ {K : Type 0} (k : Ghosts K) (e : End) (v : Verdict) (w : World K) (h : 
                 ∙ ap (λ u. cond u (with_outgoing z.key outgoing.Refused t.htlcs) (left_out
                 (is_htlc z.key) t.htlcs)) low))
                 (kin_left (is_htlc z.key) t.htlcs)
+
+            offers_number : (l : Bool) → nat_lt (refusal_number q) 47 ≡ l
+                → OldOffers channel_id_of t.htlcs (refused_by (id_of e) (refusal_number q) o t.htlcs)
+            offers_number true low = offers_as channel_id_of t.htlcs (with_outgoing z.key outgoing.Refused t.htlcs)
+                (refused_by (id_of e) (refusal_number q) o t.htlcs) (book_is
+                ∙ ap (λ u. cond u (with_outgoing z.key outgoing.Refused t.htlcs) (left_out
+                (is_htlc z.key) t.htlcs)) low)
+                (offers_changed channel_id_of (is_htlc z.key) (put_outgoing outgoing.Refused) (λ y j dec at. absurd
+                (let no : ◌≡◌ {A = OutgoingLeg} outgoing.Refused (outgoing.Offered j) = at in cc)) t.htlcs)
+            offers_number false low = offers_as channel_id_of t.htlcs (left_out (is_htlc z.key) t.htlcs)
+                (refused_by (id_of e) (refusal_number q) o t.htlcs) (book_is
+                ∙ ap (λ u. cond u (with_outgoing z.key outgoing.Refused t.htlcs) (left_out
+                (is_htlc z.key) t.htlcs)) low)
+                (offers_left channel_id_of (is_htlc z.key) t.htlcs)
+
+            later_number : (l : Bool) → nat_lt (refusal_number q) 47 ≡ l
+                → AreLater Any t.htlcs (refused_by (id_of e) (refusal_number q) o t.htlcs)
+            later_number true low = subst (AreLater Any t.htlcs) (sym (book_is
+                ∙ ap (λ u. cond u (with_outgoing z.key outgoing.Refused t.htlcs) (left_out
+                (is_htlc z.key) t.htlcs)) low))
+                (changed_later (put_outgoing outgoing.Refused) (λ y. refl) (λ y. refl) (λ y. refl))
+            later_number false low = subst (AreLater Any t.htlcs) (sym (book_is
+                ∙ ap (λ u. cond u (with_outgoing z.key outgoing.Refused t.htlcs) (left_out
+                (is_htlc z.key) t.htlcs)) low))
+                (later_left Any (is_htlc z.key) t.htlcs)
         cases (Ok d) is =
             let st = steps_now (Ok d) is in
             let p = at_end (IsProposed X (update.Add a)) proposed_so d is in
@@ -392,6 +505,21 @@ module _ {K : Type 0} (k : Ghosts K) (e : End) (v : Verdict) (w : World K) (h : 
             (ap (λ (q : ChannelEnd). q.ledger.decisions) p.0)
             (kin_changed (is_htlc z.key) (put_outgoing (outgoing.Offered (key_at channel_id_of e.channel a.id)))
             (λ y. record { key = refl; event = refl; mark = refl; decided = refl }) t.htlcs)
+            (λ q y i g halted old. elim (among_changed (is_htlc z.key)
+            (put_outgoing (outgoing.Offered (key_at channel_id_of e.channel a.id))) g t.htlcs old.there) [
+              | inl before ↦
+                  (g, record { there = before; key = old.key; decided = old.decided; outgoing = old.outgoing })
+              | inr new_one ↦
+                  let same_out : ◌≡◌ {A = OutgoingLeg} (outgoing.Offered (key_at channel_id_of e.channel a.id))
+                  (outgoing.Offered (key_at channel_id_of y i)) =
+                  ap (λ (x : Htlc). x.outgoing) new_one.3 ∙ old.outgoing in
+                  let keys : key_at channel_id_of e.channel a.id ≡ key_at channel_id_of y i = cc in
+                  let here : e.channel ≡ y = one_id e.channel y (ap (λ (j : Key). j.channel) keys) in
+                  absurd (let no : true ≡ false = sym halted ∙ ap (links_of n N).halted (sym here)
+                  ∙ awake_now d is st in cc)
+            ])
+            (changed_later (put_outgoing (outgoing.Offered (key_at channel_id_of e.channel a.id))) (λ y. refl)
+            (λ y. refl) (λ y. refl))
             (λ q. subst (λ (y : ChannelEnd). AllName y.dance.log.own) (sym p.0)
             (names_more X.dance.log.own (update.Add a) q names))
 
@@ -417,6 +545,11 @@ module _ {K : Type 0} (k : Ghosts K) (e : End) (v : Verdict) (w : World K) (h : 
             (subst (λ p. AreKin t.htlcs (refused_by (id_of e) (refusal_number q) p t.htlcs)) (sym out_is)
             (kin_changed (is_htlc z.key) (put_incoming back.RemovalRefused)
             (λ y. record { key = refl; event = refl; mark = refl; decided = refl }) t.htlcs))
+            (subst (λ p. OldOffers channel_id_of t.htlcs (refused_by (id_of e) (refusal_number q) p t.htlcs))
+            (sym out_is) (offers_changed channel_id_of (is_htlc z.key) (put_incoming back.RemovalRefused)
+            (λ y j dec at. (refl, dec, at)) t.htlcs))
+            (subst (λ p. AreLater Any t.htlcs (refused_by (id_of e) (refusal_number q) p t.htlcs)) (sym out_is)
+            (changed_later (put_incoming back.RemovalRefused) (λ y. refl) (λ y. refl) (λ y. refl)))
         cases (Ok d) is =
             let st = steps_now (Ok d) is in
             let p = at_end (IsProposed X j.change) proposed_so d is in
@@ -432,6 +565,9 @@ module _ {K : Type 0} (k : Ghosts K) (e : End) (v : Verdict) (w : World K) (h : 
             (ap (λ (q : ChannelEnd). q.ledger.decisions) p.0)
             (kin_changed (is_htlc z.key) (put_incoming back.RemovalSent)
             (λ y. record { key = refl; event = refl; mark = refl; decided = refl }) t.htlcs)
+            (λ q c i y halted. offers_changed channel_id_of (is_htlc z.key) (put_incoming back.RemovalSent)
+            (λ y j dec at. (refl, dec, at)) t.htlcs q c i y)
+            (changed_later (put_incoming back.RemovalSent) (λ y. refl) (λ y. refl) (λ y. refl))
             (λ q. subst (λ (y : ChannelEnd). AllName y.dance.log.own) (sym p.0)
             (names_more X.dance.log.own j.change q (λ i. subst Names (sym (j.no_add i)) tt)))
 
@@ -508,79 +644,18 @@ pub halted_queued : {K : Type 0} (k : Ghosts K) (e : End) (v : Verdict) (w : Wor
       links = links_of e.node w.dispatchers.channels.channels;
       book = (table_of b).htlcs;
     })
+    → IsPast channel_id_of (record {
+      links = links_of e.node w.dispatchers.channels.channels;
+      book = (table_of b).htlcs;
+    })
     → IsOrderly (view_at e.node w.dispatchers.channels.channels w.dispatchers.dispatchers b) → (s : State K)
     → link_in e.node e.channel w.dispatchers.channels.channels ≡ Some s → s.halted ≡ true → (q : Queued)
     → find (is_queued_in (id_of e)) (table_of b).queue ≡ Some q → (o : Out) (c : Command) → first_in e b ≡ Some (o, c)
     → (r : Option ℕ)
     → Holds k e.node (done_by k e v w (Some c) (Some (channel_act.Send c)) r (handed_out e (Some b) w.nodes))
-halted_queued k e v w h b calm paid agrees order s there halted q found o c first r =
+halted_queued k e v w h b calm paid agrees past order s there halted q found o c first r =
     let in_queue = queued_there e b calm q found o c first in
-    let held = order.queued e.channel q in_queue.0 in_queue.1 in
-    halted_takes k e v w h b calm paid agrees order o c
+    halted_takes k e v w h b calm paid agrees past order o c
     (subst IsBooks (queued_given e b calm q found o c first) (queued_books q)) first
-    (queued_dispatched e b calm q found o c first w.dispatchers held.1) s there r halted
-
--- ---- the step
-
-module _ {K : Type 0} (k : Ghosts K) (e : End) (v : Verdict) (w : World K) (h : Holds k e.node w) where
-  abbrev own : Book
-  own = book_in e.node w
-
-  -- the book says the same
-  pub quiet_holds : (u : World K) → u.dispatchers ≡ w.dispatchers → IsAlike own (book_in e.node u) → Holds k e.node u
-  quiet_holds u dispatchers alike_book =
-      let channels : u.dispatchers.channels.channels ≡ w.dispatchers.channels.channels =
-      ap (λ (d : Dispatchers K). d.channels.channels) dispatchers in
-      record {
-        well = same_well k e.node w u channels alike_book h.well;
-        order = orderly_alike e.node w u (λ c. stays_later (link_in e.node c w.dispatchers.channels.channels)
-            (link_in e.node c u.dispatchers.channels.channels) (ap (link_in e.node c) channels)) alike_book
-            (λ c i is. subst (λ ds. below_in e.node ds c i
-            ≡ true) (sym (ap (λ (d : Dispatchers K). d.dispatchers) dispatchers)) is)
-            h.order;
-      }
-
-  pub take_holds : Holds k e.node (happens k v (step.Do e act.Take) w)
-  take_holds = by_end (is_some (end_at e w.dispatchers)) refl
-    where
-      cs : List (WorldChannel K)
-      cs = w.dispatchers.channels.channels
-
-      found_link : (o : Option (State K)) → link_in e.node e.channel cs ≡ o → is_some (saved_of o) ≡ true
-          → (s : State K) × (link_in e.node e.channel cs ≡ Some s)
-      found_link None is f = absurd (cc)
-      found_link (Some s) is f = (s, is)
-
-      commands : (s : State K) → link_in e.node e.channel cs ≡ Some s → (q : Option Queued)
-          → find (is_queued_in (id_of e)) (table_of own).queue ≡ q → (o : Out) (c : Command)
-          → first_in e own ≡ Some (o, c)
-          → Holds k e.node (done_by k e v w (Some c) (Some (channel_act.Send c)) None (handed_out e (Some own) w.nodes))
-      commands s there None found o c first =
-          let due = due_first services (id_of e) (table_of own).htlcs o c
-          (sym (first_is e own h.well.calm
-          ∙ ap (λ z. first_of services (id_of e) z (table_of own).htlcs) found) ∙ first) in
-          let books = due_books services (id_of e) due.htlc o c (due_by (id_of e) due.htlc o due.due_is) due.command in
-          due_takes k e v w h own h.well.calm h.well.paid h.well.agrees h.order o c books.0 first
-          (free_is e c w.dispatchers books.1) s there None due
-      commands s there (Some q) found o c first =
-          let in_queue = queued_there e own h.well.calm q found o c first in
-          halted_queued k e v w h own h.well.calm h.well.paid h.well.agrees h.order s there
-          (sym (ap has_halted there) ∙ (h.order.queued e.channel q in_queue.0 in_queue.1).0) q found o c first None
-
-      by_first : is_some (end_at e w.dispatchers) ≡ true → (f : Option (Out × Command)) → first_in e own ≡ f
-          → Holds k e.node (done_by k e v w (option_map (λ x. x.1) f) (sent_or (option_map (λ x. x.1) f) None) None
-          (handed_out e (Some own) w.nodes))
-      by_first some None is = quiet_holds (done_by k e v w None None None (handed_out e (Some own) w.nodes)) refl
-          (subst (λ b. IsAlike own b) (sym (ap (λ (z : NodeBook). z.book)
-          (own_book (with_book (handed e own)) (λ z. refl) e.node w.nodes)
-          ∙ ap (λ f. with_taken (id_of e) f own) is)) (alike own))
-      by_first some (Some x) is =
-          let l = found_link (link_in e.node e.channel cs) refl some in
-          commands l.0 l.1 (find (is_queued_in (id_of e)) (table_of own).queue) refl x.0 x.1 is
-
-      by_end : (t : Bool) → is_some (end_at e w.dispatchers) ≡ t
-          → Holds k e.node (done_by k e v w (command_by e (taking t own)) (sent_or (command_by e (taking t own)) None)
-          None
-          (handed_out e (taking t own) w.nodes))
-      by_end false is = idle_holds k e v w h (done_by k e v w None None None w.nodes) refl refl
-      by_end true is = by_first is (first_in e own) refl
+    (queued_dispatched e b calm q found o c first w.dispatchers
+    (λ free. (order.queued e.channel q in_queue.0 in_queue.1 free).0)) s there r halted

@@ -1,5 +1,5 @@
 -- What is kept of a node in a world, and the steps in which its payments have no part.
-use Rattle.std.proofs.Common.{◌≡◌, ℕ, List, [], map, refl, sym, ap, subst, Bool, true, false}
+use Rattle.std.proofs.Common.{◌≡◌, ℕ, List, [], refl, sym, ap, subst, Bool, true, false}
 use Rattle.std.proofs.Common.{cond, None}
 use Rattle.ln_keys.specs.declared.keys.ChannelKeys.{Ghosts}
 use Rattle.ln_hooks.specs.declared.verdict.Verdict.{Verdict}
@@ -13,24 +13,23 @@ use Rattle.ln_book_tables.specs.Replay.{table_of}
 use Rattle.ln_world_channels.specs.declared.step.Node.{Node}
 use Rattle.ln_world_channels.specs.declared.step.End.{End}
 use Rattle.ln_world_channels.specs.Settings.{channel_id_of}
-use Rattle.ln_world_channels.specs.WorldChannel.{WorldChannel, is_node, restart_moves, moved}
+use Rattle.ln_world_channels.specs.WorldChannel.{WorldChannel, is_node}
 use Rattle.ln_world_channels.specs.Promises.{Each}
-use Rattle.ln_world_channels.proofs.Kept.{IsOpen, restart_kept}
-use Rattle.ln_world_channels.proofs.Promised.{all_so}
+use Rattle.ln_world_channels.proofs.Kept.{IsOpen}
 use Rattle.ln_world.specs.declared.node.NodeBook.{NodeBook}
 use Rattle.ln_world.specs.declared.step.Step.TheVariants as step
 use Rattle.ln_world.specs.Node.{Book, node_at, changed, with_policy, with_book}
-use Rattle.ln_world.specs.Follow.{followed, begun_anew}
+use Rattle.ln_world.specs.Follow.{followed}
 use Rattle.ln_world.specs.World.{World, empty, happens, entered, is_height, concluded, lines_by}
 use Rattle.ln_world.specs.declared.follow_up.FollowUp.TheVariants as follow_up
 use Rattle.ln_payment_circuits.proofs.Scenes.{HavePayments}
 use Rattle.ln_payment_circuits.proofs.Promise.{begun}
 use Rattle.ln_payment_circuits.proofs.Resumed.{HoldAlike}
+use Rattle.ln_payment_circuits.proofs.Past.{IsPast}
 use Rattle.ln_world.proofs.Scene.{links_of, scene_of}
 use Rattle.ln_world.proofs.Books.{own_book, other_book, follow_alike, alike, alike_then, IsAlike, letters}
-use Rattle.ln_world.proofs.Same.{IsSame, same_paid, same_agrees}
+use Rattle.ln_world.proofs.Same.{IsSame, same_paid, same_agrees, same_past}
 use Rattle.ln_world.proofs.Anew.{AreSmall}
-use Rattle.ln_world.proofs.Restarts.{restarts, small_all}
 use Rattle.ln_world.proofs.PendingCommands.{IsCalm, calm_alike}
 use Rattle.ln_world.proofs.Books.{entry_alike}
 
@@ -43,6 +42,7 @@ pub record IsWell {K : Type 0} (k : Ghosts K) (n : Node) (w : World K) : Type 0 
   pub calm : IsCalm (book_in n w)
   pub paid : HavePayments channel_id_of (scene_of n w)
   pub agrees : HoldAlike channel_id_of (scene_of n w)
+  pub past : IsPast channel_id_of (scene_of n w)
 
 module _ {K : Type 0} (k : Ghosts K) (n : Node) where
   -- ---- as a world begins
@@ -56,6 +56,7 @@ module _ {K : Type 0} (k : Ghosts K) (n : Node) where
         (scene_of n (empty {K = K} hooks)) (record { sides = λ d. refl; halted = λ d. refl; book = refl })
         (begun channel_id_of);
     agrees = λ c X e. absurd (cc);
+    past = λ q c i x o. absurd o.there;
   }
 
   -- ---- where neither the channels nor what a payment is read off change
@@ -75,6 +76,7 @@ module _ {K : Type 0} (k : Ghosts K) (n : Node) where
         calm = calm;
         paid = same_paid channel_id_of (scene_of n w) (scene_of n v) same h.paid;
         agrees = same_agrees channel_id_of (scene_of n w) (scene_of n v) same h.agrees;
+        past = same_past channel_id_of (scene_of n w) (scene_of n v) same h.past;
       }
 
   pub same_well : (w v : World K) → v.dispatchers.channels.channels ≡ w.dispatchers.channels.channels
@@ -142,22 +144,3 @@ module _ {K : Type 0} (k : Ghosts K) (n : Node) where
 
     pub register_well : (e : End) (hook : ℕ) → IsWell k n w → IsWell k n (happens k v (step.Register e hook) w)
     register_well e hook h = same_well w (happens k v (step.Register e hook) w) refl (alike (book_in n w)) h
-
-  -- ---- the node restarts
-
-  pub restart_well : (v : Verdict) (w : World K) → IsWell k n w → IsWell k n (happens k v (step.Restart n) w)
-  restart_well v w h =
-      let cs = w.dispatchers.channels.channels in
-      let new = map (moved k.signer (restart_moves n)) cs in
-      let p = restarts k n w h.open_ h.small v h.paid in
-      record {
-        open_ = all_so k (IsOpen k.signer) (restart_moves n) (restart_kept k.signer n) cs h.open_;
-        small = small_all (moved k.signer (restart_moves n)) (λ c. refl) cs h.small;
-        calm = subst (λ (x : NodeBook). IsCalm x.book)
-            (sym (own_book (λ x. followed new (begun_anew new x)) (λ x. refl) n w.nodes))
-            (calm_alike (begun_anew new (node_at n w.nodes)).book
-            (followed new (begun_anew new (node_at n w.nodes))).book
-            (follow_alike new (begun_anew new (node_at n w.nodes))) (λ a. refl));
-        paid = p.0;
-        agrees = p.1;
-      }

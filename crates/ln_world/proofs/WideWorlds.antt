@@ -378,6 +378,7 @@ module _ {K : Type 0} (k : Ghosts K) where
   plain_so (step.Down e) w is h = tt
   plain_so (step.NoMemory e a) w is h = unmade_so e (unbegun e a w)
   plain_so (step.Restart n) w is h = tt
+  plain_so (step.Reload e) w is h = tt
   plain_so (step.StopBefore e a) w is h = before_so e (unbegun e a w)
   plain_so (step.StopAfter e a) w is h = stopped_so e (call_of e a w) (resumed_at e a w.dispatchers)
       (call_so e a w is h)
@@ -467,6 +468,7 @@ module _ {K : Type 0} (k : Ghosts K) where
   prepared_so (step.NoMemory e a) w is h =
       handed_out_so e (asked_unbegun e a w) w.nodes (unbegun_so e a w h) h.nodes
   prepared_so (step.Restart n) w is h = h.nodes
+  prepared_so (step.Reload e) w is h = h.nodes
   prepared_so (step.StopBefore e a) w is h =
       handed_out_so e (asked_unbegun e a w) w.nodes (unbegun_so e a w h) h.nodes
   prepared_so (step.StopAfter e a) w is h = handed_out_so e (asked e a w) w.nodes (asked_so e a w h) h.nodes

@@ -32,6 +32,7 @@ IsOfBook k n (step.Do e a) = OfBook n e a
 IsOfBook k n (step.Down e) = Unit {0}
 IsOfBook k n (step.NoMemory e a) = Unit {0}
 IsOfBook k n (step.Restart m) = Unit {0}
+IsOfBook k n (step.Reload e) = Unit {0}
 IsOfBook k n (step.StopBefore e a) = Unit {0}
 IsOfBook k n (step.StopAfter e a) = OfBook n e a
 IsOfBook k n (step.Up number) = Unit {0}

@@ -27,6 +27,7 @@ IsStep k (step.Do e a) = IsAct a
 IsStep k (step.Down e) = Unit {0}
 IsStep k (step.NoMemory e a) = Unit {0}
 IsStep k (step.Restart n) = Unit {0}
+IsStep k (step.Reload e) = Unit {0}
 IsStep k (step.StopBefore e a) = Unit {0}
 IsStep k (step.StopAfter e a) = IsAct a
 IsStep k (step.Up n) = Unit {0}

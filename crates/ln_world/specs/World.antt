@@ -207,6 +207,7 @@ plain k (step.Do e a) w = option_map (λ x. dispatcher_step.Do e x) (call_of e a
 plain k (step.Down e) w = Some (dispatcher_step.Down e)
 plain k (step.NoMemory e a) w = option_map (λ x. dispatcher_step.NoMemory e x) (unbegun e a w)
 plain k (step.Restart n) w = Some (dispatcher_step.Restart n)
+plain k (step.Reload e) w = Some (dispatcher_step.Reload e)
 plain k (step.StopBefore e a) w = option_map (λ x. dispatcher_step.StopBefore e x) (unbegun e a w)
 plain k (step.StopAfter e a) w = stops_behind e (call_of e a w) (resumed_at e a w.dispatchers)
 plain k (step.Up n) w = Some (dispatcher_step.Up n)
@@ -274,6 +275,11 @@ if_stopped None None x = follow_up.None
 abbrev pub if_height : ℕ → Node → FollowUp
 if_height height n = if is_height height then follow_up.Set n else follow_up.None
 
+-- an end reloads: it comes back from its record where it has halted
+abbrev pub coming_back : {K : Type 0} → End → Option (State K) → FollowUp
+coming_back e None = follow_up.None
+coming_back e (Some l) = if l.halted then follow_up.Disconnected e else follow_up.None
+
 abbrev pub is_take : Act → Bool
 is_take act.Take = true
 is_take a = false
@@ -286,6 +292,7 @@ follow_up_of (step.Do e a) w = acting e (command_of e a w) (call_of e a w) (resu
 follow_up_of (step.Down e) w = follow_up.Disconnected e
 follow_up_of (step.NoMemory e a) w = if_begun (unbegun e a w) (follow_up.Halt e (is_take a))
 follow_up_of (step.Restart n) w = follow_up.Restart n
+follow_up_of (step.Reload e) w = coming_back e (link_at e w.dispatchers.channels.channels)
 follow_up_of (step.StopBefore e a) w = if_begun (unbegun e a w) (follow_up.Restart e.node)
 follow_up_of (step.StopAfter e a) w = if_stopped (call_of e a w) (resumed_at e a w.dispatchers)
     (follow_up.Restart e.node)
@@ -309,7 +316,7 @@ reported e before a told new b = with_held (id_of e) before (end_at e new) (answ
 abbrev pub unanswered : End → Bool → Book → Book
 unanswered e out b = if out then replied (id_of e) (Err 62) b else b
 
--- what an end has kept, after a lost connection
+-- what an end has kept, after a lost connection or a reload
 abbrev pub saved_dropped : End → Option ChannelEnd → Book → Book
 saved_dropped e None b = b
 saved_dropped e (Some x) b = with_dropped (id_of e) x b

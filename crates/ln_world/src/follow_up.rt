@@ -30,7 +30,7 @@ pub enum FollowUp {
     /// An end acts that had told so many events: its book hears what the end answers to what it has asked, and what
     /// the end has come to hold.
     Act(End, u64, Option<PendingAnswer>),
-    /// An end loses its connection: its book is told what it has kept.
+    /// An end has lost its connection, or has come back from its record: its book is told what it has kept.
     Disconnected(End),
     /// An end halts; whether a command of its book was handed out, which stays there.
     Halt(End, bool),

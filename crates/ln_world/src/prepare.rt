@@ -10,12 +10,12 @@ ghost use Rattle.ln_world.specs.World.{entered, book_of, command_in, command_by,
 ghost use Rattle.ln_world.specs.World.{with_decision, resuming, resumed_at, resumes, refusing, asked};
 ghost use Rattle.ln_world.specs.World.{command_of, call_of, unbegun, asked_unbegun, asks_by, end_at};
 ghost use Rattle.ln_world.specs.World.{own_act, with_height, if_height, plain, prepared, follow_up_of};
-ghost use Rattle.ln_world.specs.World.{stops_behind, if_stopped};
+ghost use Rattle.ln_world.specs.World.{stops_behind, if_stopped, link_at, coming_back};
 ghost use Rattle.ln_world.specs.declared.follow_up.FollowUp.TheVariants as follow_up;
 ghost use Rattle.ln_world.specs.declared.step.Step.TheVariants as step;
 
 use crate::book_reports::{event_count, noted_of};
-use crate::call::end_at;
+use crate::call::{end_at, link_at};
 use crate::follow_up::{FollowUp, PendingAnswer};
 use crate::node::{NodeBook, index_of, place_for};
 use crate::step::{Act, Step};
@@ -379,6 +379,22 @@ fn prepare_stop_after<K: ChannelKeys + Copy>(
     }
 }
 
+// What the books have to do after an end's reload: nothing where it hasn't halted.
+fn come_back<K: ChannelKeys + Copy>(dispatchers: &Nodes<K>, end: End) -> FollowUp
+    ensures { result ≡ coming_back end (link_at end dispatchers.now.channels.channels) }
+{
+    match link_at(dispatchers.channels(), end) {
+        None => FollowUp::None,
+        Some(link) => {
+            if link.is_halted() {
+                FollowUp::Disconnected(end)
+            } else {
+                FollowUp::None
+            }
+        }
+    }
+}
+
 // The block height of a node, where there is such a one. 60 where there is no memory.
 fn prepare_height(
     alloc: Global,
@@ -439,6 +455,7 @@ pub(crate) fn prepare<K: ChannelKeys + Copy>(
             }
         }
         Step::Restart(node) => Ok((Some(DispatchStep::Restart(node)), FollowUp::Restart(node))),
+        Step::Reload(end) => Ok((Some(DispatchStep::Reload(end)), come_back(dispatchers, end))),
         Step::StopBefore(end, what) => match leave(alloc, dispatchers, nodes, end, what)? {
             None => Ok((None, FollowUp::None)),
             Some(act) => Ok((

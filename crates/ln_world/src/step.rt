@@ -44,6 +44,9 @@ pub enum Step<K: ChannelKeys + Copy> {
     NoMemory(End, Act),
     /// The node's book begins anew with what the ends have.
     Restart(Node),
+    /// An end that has halted comes back from its record beside its node's book, which goes on and hears what the end
+    /// has kept.
+    Reload(End),
     StopBefore(End, Act),
     StopAfter(End, Act),
     Up(u8),

@@ -80,10 +80,11 @@ impl<K: ChannelKeys + Copy, H: Serve> World<K, H> {
     /// end is to decide, the book decides the end's first undecided event, which its dispatcher has served, by what the
     /// hooks said of it; then, as where an end is to take, the book hands out the first command for the end, a decision
     /// before all others, and hears what the end answers. The book of an end that acts hears which removals of HTLCs
-    /// the end has come to hold; that of an end that loses its connection, what the end has kept; and where a node
-    /// restarts or stops its book begins anew with what the node's ends have. At last the book follows the node's ends:
-    /// their short ids, and which of them take payments. What can't be done changes nothing, and `Line::Idle` is told:
-    /// so where the book has no command, nothing waits to be decided, or somebody sends what is the book's to command.
+    /// the end has come to hold; that of an end that loses its connection or reloads, what the end has kept; and
+    /// where a node restarts or stops its book begins anew with what the node's ends have. At last the book follows the
+    /// node's ends: their short ids, and which of them take payments. What can't be done changes nothing, and
+    /// `Line::Idle` is told: so where the book has no command, nothing waits to be decided, or somebody sends what is
+    /// the book's to command.
     ///
     /// Errors: 60 where there is no memory; 70 where an end has no record as an act or the opening leaves it.
     pub fn step(
