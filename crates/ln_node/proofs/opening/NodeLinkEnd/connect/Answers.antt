@@ -6,7 +6,7 @@ pub returns-in-Ok : goal.returns-in-Ok
 returns-in-Ok g c =
     connected g.K.ChannelKeys.signer _ _ _ _ _ _
     (sym (rw c.deref.ensures at (c.is_unopened.ensures _ c.channel_machine.ensures)) ∙ c.if-is_unopened.true)
-    (rw (c.deref-then-is_unopened.ensures, c.deref-then-is_unopened-2.ensures, c.deref_mut.ensures.value, c.in-Ok.is)
+    (rw (c.deref-then-is_unopened.ensures, c.deref_mut.ensures.value, c.in-Ok.is)
     at c.begin_anew.ensures) (
       rw (c.deref_mut-in-Ok.ensures.value, c.deref_mut.ensures.value, ← c.observed.ensures)
           at c.connect-said.ensures,
@@ -18,7 +18,7 @@ returns-in-Err g c =
     rw c.deref_mut.ensures.value
     (refused g.K.ChannelKeys.signer _ _ _ _ _
     (sym (rw c.deref.ensures at (c.is_unopened.ensures _ c.channel_machine.ensures)) ∙ c.if-is_unopened.true)
-    (rw (c.deref-then-is_unopened.ensures, c.deref-then-is_unopened-2.ensures, c.deref_mut.ensures.value, c.in-Err.is)
+    (rw (c.deref-then-is_unopened.ensures, c.deref_mut.ensures.value, c.in-Err.is)
     at c.begin_anew.ensures))
 
 pub returns : goal.returns
