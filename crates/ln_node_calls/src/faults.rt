@@ -18,6 +18,8 @@ use std::sync::atomic::{AtomicU64, Ordering};
 pub struct Probe {
     /// How many loads are to be refused.
     pub denials: AtomicU64,
+    /// How many were.
+    pub denied: AtomicU64,
     /// How many hooks were registered.
     pub hooks: AtomicU64,
 }
@@ -27,6 +29,7 @@ impl Probe {
     pub fn new(alloc: Global) -> Result<Arc<Probe>, AllocError> {
         let probe = Probe {
             denials: AtomicU64::new(0),
+            denied: AtomicU64::new(0),
             hooks: AtomicU64::new(0),
         };
         Ok(Arc::new(alloc, probe)?)
@@ -105,13 +108,14 @@ fn counted(failed: &mut u64, refusal: Refusal) -> Refusal
     refusal
 }
 
-// Whether a load is to be refused, of as many as are left.
-fn is_denied(left: &AtomicU64) -> bool {
-    let before = left.load(Ordering::SeqCst);
-    if before > 0 {
-        left.store(before - 1, Ordering::SeqCst);
+// Whether a load is to be refused, of as many as are left. It is counted.
+fn is_denied(probe: &Probe) -> bool {
+    if probe.denials.load(Ordering::SeqCst) == 0 {
+        return false;
     }
-    before > 0
+    probe.denials.fetch_sub(1, Ordering::SeqCst);
+    probe.denied.fetch_add(1, Ordering::SeqCst);
+    true
 }
 
 impl<S: RecordStore + Drop> RecordStore for DenyingStore<S> {
@@ -125,7 +129,7 @@ impl<S: RecordStore + Drop> RecordStore for DenyingStore<S> {
     }
 
     fn load(&mut self, alloc: Global, id: &[u8; 32]) -> Result<Option<Bytes>, Refusal> {
-        if is_denied(&self.probe.denials) {
+        if is_denied(&self.probe) {
             return Err(counted(&mut self.failed, Refusal::Store));
         }
         match self.inner.load(alloc, id) {

@@ -175,6 +175,12 @@ where
                 }
                 Ok(())
             }
+            "rests" => {
+                for _ in 0..at(words, "count") {
+                    self.pause();
+                }
+                Ok(())
+            }
             "pay" | "send" | "ask" | "payments" => self.pays(verb, words),
             "expect" => {
                 let (payee, _) = party(text_at(words, "payee"))?;

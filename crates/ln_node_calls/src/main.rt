@@ -46,7 +46,8 @@
 //! | `silent end=A0` | the end has noted nothing more |
 //! | `skips end=A0` | what all have noted is passed over, up to an order that the end refuses |
 //! | `looks count=100`, `stop` | so much time passes; the nodes stop |
-//! | `wait end=A0 fulfilled=1` | it counts so: gauge.rt of ln_tests_ends; `usable`, `held`, `lost` connections, .. |
+//! | `rests count=100` | so much time passes, while nobody is connected again or asked to sign |
+//! | `wait end=A0 fulfilled=1` | it counts so: gauge.rt of ln_tests_ends; `usable`, `held`, `denied` loads, .. |
 //! | | .. what its summary or its node's counters tell is so: watch.rt |
 //! | `shows end=A0 state=ready` | by its summary the end is so far: see watch.rt |
 //! | `lists node=B` | all summaries of the node tell of each of its channels what its own tells |

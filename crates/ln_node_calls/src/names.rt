@@ -4,7 +4,7 @@ use ln_named_lines::Names;
 
 /// What is counted of an end, by its gauge (gauge.rt of ln_tests_ends); what its summary and its node's counters tell
 /// (watch.rt there); and what row.rt counts.
-pub const COUNTS: [&str; 40] = [
+pub const COUNTS: [&str; 41] = [
     "added",
     "came",
     "paid",
@@ -43,6 +43,7 @@ pub const COUNTS: [&str; 40] = [
     "usable",
     "held",
     "hooks",
+    "denied",
     "lost",
     "signed",
 ];
@@ -115,7 +116,7 @@ pub fn names_of(verb: &str) -> Option<Names<'static>> {
         "meet" | "confirm" | "open" | "fourth" | "stop" => Some(names(&[], &[], &[])),
         "listen" => Some(names(&[], &["accepted"], &[])),
         "wants" => Some(names(&[], &["feature"], &[])),
-        "looks" => Some(names(&[], &["count"], &[])),
+        "looks" | "rests" => Some(names(&[], &["count"], &[])),
         "signing" => Some(names(&["when"], &[], &[])),
         "restart" | "lists" => Some(names(&["node"], &[], &[])),
         "trace" => Some(names(&["node"], &["steps"], &[])),

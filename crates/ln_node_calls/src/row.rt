@@ -320,6 +320,11 @@ where
                     .hooks
                     .load(Ordering::SeqCst),
             ),
+            "denied" => Ok(
+                of_end(self.probes.as_slice(), end)?
+                    .denied
+                    .load(Ordering::SeqCst),
+            ),
             "lost" => Ok(self.proxy(end)?.proxy.over.load(Ordering::SeqCst)),
             "signed" => Ok(
                 self.proxy(end)?
