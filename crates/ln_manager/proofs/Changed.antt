@@ -22,7 +22,7 @@ use Rattle.ln_manager_channels.specs.Loading.{Seats, SeatsAll}
 use Rattle.ln_manager_channels.specs.Moves.{Answer, Known, TakesAt, TakesOver, TakesMessage, ObeysBy, ObeysOver}
 use Rattle.ln_manager_channels.specs.Moves.{ObeysUser, batched, is_others, knowing, known_before, none_fresh}
 use Rattle.ln_manager_channels.specs.Moves.{no_record, opened_in, with_place}
-use Rattle.ln_manager_channels.specs.Obeying.{Obeyed, Gives, Stops, ObeysCommand, ObeysFirst, ObeysBook, Concludes}
+use Rattle.ln_manager_channels.specs.Obeying.{Obeyed, Gives, Stops, ObeysCommand, ObeysFirst, ObeysBook}
 use Rattle.ln_manager_channels.specs.Obeying.{ConcludesIf, ConcludesFirst, ConcludesDue, Decides, Resumes, first_of}
 use Rattle.ln_manager_channels.specs.Places.{AnswersBesideBy, changed_at, changed_by}
 use Rattle.ln_manager.specs.Managed.{ChangesOneAt}

@@ -1,5 +1,5 @@
 -- Which events of channels are with the host of a node, and which are for it.
-use Rattle.std.specs.Prelude.{◌≡◌, ℕ, List, Bool, true, false, not, nat_lt, ◌==◌, ◌&&◌, Option, Some, None, slice_get}
+use Rattle.std.specs.Prelude.{ℕ, List, Bool, true, false, not, nat_lt, ◌==◌, ◌&&◌, Option, Some, None, slice_get}
 use Rattle.std.specs.Prelude.{Result, Ok, Err, if◌then◌else◌}
 use Rattle.ln_refusals.specs.declared.refusal.Refusal.{Refusal}
 use Rattle.ln_refusals.specs.declared.refusal.Refusal.TheVariants as refusal

@@ -1,3 +1,4 @@
 pub mod Batches
 pub mod Events
+pub mod Leads
 pub mod Managed

@@ -1,7 +1,10 @@
 //! A routing node without threads.
 
-ghost use Rattle.std.specs.Prelude.{◌≡◌, ◌||◌, true, List, IfErr};
-ghost use Rattle.ln_manager.specs.Managed.{ChangesOneAt, if_batched};
+ghost use Rattle.std.specs.Prelude.{◌≡◌, ◌||◌, true, List, IfOk, IfErr, OnOk, OnErr};
+ghost use Rattle.ln_manager.specs.Leads.{Leads};
+ghost use Rattle.ln_manager.specs.Managed.{ChangesOneAt, given_if, if_batched};
+ghost use Rattle.ln_manager_channels.specs.Calls as call;
+ghost use Rattle.ln_manager_channels.specs.Calls.{Makes};
 ghost use Rattle.ln_manager_channels.specs.Moves.{none_fresh};
 
 use crate::batch::{Batch, SavedRecord};
@@ -54,11 +57,16 @@ impl<K: ChannelKeys + Drop, O: Onion + Drop> Model for Manager<K, O> {
     ghost use Rattle.ln_manager.specs.Managed.{Managed};
     ghost use Rattle.ln_manager_channels.specs.Moves.{none_fresh};
 
-    ghost Value = { Managed K };
+    ghost Value = { Managed K O };
 
     ghost coded = { Prim.hlevel (codes, store.the_row.coded) };
 
-    ghost view = { λ m. record { channels = m.channels; lines = m.lines; is_out = m.is_out.items } };
+    ghost view = { λ m. record {
+      channels = m.channels;
+      onion = m.onion;
+      lines = m.lines;
+      is_out = m.is_out.items;
+    } };
 
     ghost invariant = { λ m. (m.is_spent || none_fresh m.channels.parts.records) ≡ true };
 }
@@ -109,6 +117,11 @@ fn batch<K: ChannelKeys + Drop>(
     ensures leaves_none_out { (rs : List Newest) → ChangesOneAt channel rs channels.old.parts.records
         → (is_spent.old || none_fresh rs) ≡ true
         → (is_spent.new || none_fresh channels.new.parts.records) ≡ true }
+    ensures leads_on { Leads K.signer channels.old channels.new }
+    ensures batches { OnOk result ((is_spent.new ≡ is_spent.old)
+        × Makes K.signer (call.Batch channel) channels.old.parts channels.new.parts) }
+    ensures or_halts { OnErr result ((is_spent.new ≡ true)
+        × Makes K.signer (call.Halt channel) channels.old.parts channels.new.parts) }
 {
     match channels.batch(lines, channel) {
         Ok(()) => Ok(()),
@@ -137,7 +150,9 @@ fn if_batched<T: Drop>(
 }
 
 // What became of a command, unless the record stands in no batch: the link has halted then.
-fn given_if(batched: Result<(), Refusal>, given: Given) -> Given {
+fn given_if(batched: Result<(), Refusal>, given: Given) -> Given
+    ensures { result ≡ given_if batched given }
+{
     match batched {
         Ok(()) => given,
         Err(_) => {
@@ -159,9 +174,10 @@ fn make_place<T: Drop>(places: &mut Vec<T>, channel: usize, value: T) -> Result<
     Ok(())
 }
 
+#[tactic(auto, using(crate::proofs::Leading::stays, crate::proofs::Leading::then, crate::proofs::Leading::led))]
 impl<K: ChannelKeys + Drop, O: Onion + Drop> Manager<K, O> {
     ghost use Rattle.std.specs.Prelude.{◌≡◌, true, false, Some, None, slice_get, Ok, Err, IfOk, IfErr, IfSome, IfNone};
-    ghost use Rattle.std.specs.Prelude.{OnOk, OnErr, ◌⊎◌, ◌++◌, ◌∷◌, [], ◌&&◌, length, option_copied};
+    ghost use Rattle.std.specs.Prelude.{OnOk, OnErr, IsOk, is_ok, ◌⊎◌, ◌++◌, ◌∷◌, [], ◌&&◌, length, option_copied};
     ghost use Rattle.ln_batches.specs.Queues as lines;
     ghost use Rattle.ln_batches.specs.Queues.{no_queue, first_at, may_leave, handed, is_out, sent, closed, saved};
     ghost use Rattle.ln_batches.specs.Queues.{saved_events, is_closed, can_close};
@@ -171,19 +187,24 @@ impl<K: ChannelKeys + Drop, O: Onion + Drop> Manager<K, O> {
     ghost use Rattle.ln_book_tables.specs.declared.entry.Entry.TheVariants as entry;
     ghost use Rattle.ln_book_tables.specs.Held.{all_held};
     ghost use Rattle.ln_book_tables.specs.Replay.{table_of};
+    ghost use Rattle.ln_book.specs.Answers as answers;
     ghost use Rattle.ln_manager.specs.Events.{decided_in, event_for_host, is_for_host, is_with_host, marked_at};
     ghost use Rattle.ln_manager.specs.Events.{may_decide};
     ghost use Rattle.ln_manager.specs.Batches.{listed, record_of, records_of};
+    ghost use Rattle.ln_manager.specs.Leads.{Leads, LeadsBy};
     ghost use Rattle.ln_manager_channels.specs.Books.{height_answer, with_height};
-    ghost use Rattle.ln_manager_channels.specs.Calls.{no_parts};
-    ghost use Rattle.ln_manager_channels.specs.Links.{end_in, halted_in, number_in};
+    ghost use Rattle.ln_manager_channels.specs.Calls as call;
+    ghost use Rattle.ln_manager_channels.specs.Calls.{AreLoaded, Parts, no_parts};
+    ghost use Rattle.ln_manager_channels.specs.Links.{end_in, halted_in, number_in, working_id};
+    ghost use Rattle.ln_manager_channels.specs.Loading.{LacksSome, no_seats};
     ghost use Rattle.ln_manager_channels.specs.Moves.{none_fresh, naming_in, with_funding};
+    ghost use Rattle.ln_manager_channels.specs.Obeying.{HoldsNone};
     ghost use Rattle.ln_manager_channels.specs.Places.{changed_at};
 
     // Over these channels, whose records stand in batches.
     fn over(alloc: Global, onion: O, policy: Policy, channels: Channels<K>) -> Manager<K, O>
         requires { none_fresh channels.parts.records ≡ true }
-        ensures { result ≡ record { channels = channels; lines = no_queue; is_out = [] } }
+        ensures { result ≡ record { channels = channels; onion = onion; lines = no_queue; is_out = [] } }
     {
         Manager {
             channels,
@@ -205,6 +226,7 @@ impl<K: ChannelKeys + Drop, O: Onion + Drop> Manager<K, O> {
     pub fn new(alloc: Global, onion: O, policy: Policy) -> Manager<K, O>
         ensures begins_with_none { result.channels.began ≡ no_parts }
         ensures has_none { result.channels.parts ≡ no_parts }
+        ensures opens_by_this_service { result.onion ≡ onion }
         ensures nothing_waits { result.lines ≡ no_queue }
         ensures nothing_is_with_the_host { result.is_out ≡ [] }
     {
@@ -290,6 +312,7 @@ impl<K: ChannelKeys + Drop, O: Onion + Drop> Manager<K, O> {
         ensures adds_none_if_refused { OnErr result (self.new.channels.parts.links ≡ self.old.channels.parts.links) }
         ensures fails_for_memory_alone { IfErr result (λ r. r ≡ Refusal.Memory) }
         ensures book_stays { self.new.channels.parts.book ≡ self.old.channels.parts.book }
+        ensures leads_on { Leads K.signer self.old.channels self.new.channels }
     {
         let channel = self.channels.len();
         if let Err(refusal) = self.make_places(alloc, channel, 0) {
@@ -315,6 +338,7 @@ impl<K: ChannelKeys + Drop, O: Onion + Drop> Manager<K, O> {
         ensures adds_none_if_refused { OnErr result (self.new.channels.parts.links ≡ self.old.channels.parts.links) }
         ensures fails_for_memory_alone { IfErr result (λ r. r ≡ Refusal.Memory) }
         ensures book_stays { self.new.channels.parts.book ≡ self.old.channels.parts.book }
+        ensures leads_on { Leads K.signer self.old.channels self.new.channels }
     {
         let channel = self.channels.len();
         if let Err(refusal) = self.make_places(alloc, channel, 0) {
@@ -342,6 +366,7 @@ impl<K: ChannelKeys + Drop, O: Onion + Drop> Manager<K, O> {
             };
           };
         } }
+        ensures leads_on { Leads K.signer self.old.channels self.new.channels }
     {
         self.channels.name_funding(channel, txid, output)
     }
@@ -351,6 +376,7 @@ impl<K: ChannelKeys + Drop, O: Onion + Drop> Manager<K, O> {
     // What the book commands may be due in the channel of this id.
     fn list_due(&mut self, id: Option<ChannelId>)
         ensures marks_stay { self.new.is_out ≡ self.old.is_out }
+        ensures leads_on { Leads K.signer self.old.channels self.new.channels }
     {
         let Some(id) = id else {
             return;
@@ -370,6 +396,7 @@ impl<K: ChannelKeys + Drop, O: Onion + Drop> Manager<K, O> {
 
     fn note_use(&mut self, channel: usize, used: Use)
         ensures marks_stay { self.new.is_out ≡ self.old.is_out }
+        ensures leads_on { Leads K.signer self.old.channels self.new.channels }
     {
         if let Some(told) = self.told_uses.get_mut(channel) {
             *told = Some(used);
@@ -379,6 +406,8 @@ impl<K: ChannelKeys + Drop, O: Onion + Drop> Manager<K, O> {
     // The book hears which payments an end takes, where that is news. Error: 60 alone.
     fn follow(&mut self, channel: usize) -> Result<(), Refusal>
         ensures marks_stay { self.new.is_out ≡ self.old.is_out }
+        ensures leads_on { Leads K.signer self.old.channels self.new.channels }
+        ensures fails_for_memory_alone { IfErr result (λ r. r ≡ Refusal.Memory) }
     {
         let Some(used) = self.channels.use_of(channel) else {
             return Ok(());
@@ -395,6 +424,8 @@ impl<K: ChannelKeys + Drop, O: Onion + Drop> Manager<K, O> {
     // takes no payments.
     fn halt(&mut self, channel: usize)
         ensures marks_stay { self.new.is_out ≡ self.old.is_out }
+        ensures leads_on { Leads K.signer self.old.channels self.new.channels }
+        ensures halts { LeadsBy K.signer (call.Halt channel) true self.old.channels self.new.channels }
     {
         self.channels.halt(channel);
         self.lines.lose(channel);
@@ -415,6 +446,7 @@ impl<K: ChannelKeys + Drop, O: Onion + Drop> Manager<K, O> {
     fn push(&mut self, channel: usize, posted: Posted) -> Result<(), Refusal>
         ensures marks_stay { self.new.is_out ≡ self.old.is_out }
         ensures after_each_change { OnOk result (none_fresh self.old.channels.parts.records ≡ true) }
+        ensures leads_on { Leads K.signer self.old.channels self.new.channels }
     {
         if let Err(refusal) = self.leaves_none_out() {
             drop(posted);
@@ -426,6 +458,7 @@ impl<K: ChannelKeys + Drop, O: Onion + Drop> Manager<K, O> {
     // A message waits in the line of its channel, with what is blank in it as the link is now. Errors: 60, 46.
     fn post(&mut self, alloc: Global, channel: usize, message: Message) -> Result<(), Refusal>
         ensures marks_stay { self.new.is_out ≡ self.old.is_out }
+        ensures leads_on { Leads K.signer self.old.channels self.new.channels }
     {
         let blank = match self.channels.machine(channel) {
             None => Ok(None),
@@ -443,6 +476,7 @@ impl<K: ChannelKeys + Drop, O: Onion + Drop> Manager<K, O> {
     // The book hears an event of a channel, by which another one may be due. Error: 60 alone.
     fn hear(&mut self, alloc: Global, channel: usize, number: u64) -> Result<(), Refusal>
         ensures marks_stay { self.new.is_out ≡ self.old.is_out }
+        ensures leads_on { Leads K.signer self.old.channels self.new.channels }
     {
         let other = self.channels.hear(alloc, channel, number)?;
         self.list_due(other);
@@ -451,6 +485,7 @@ impl<K: ChannelKeys + Drop, O: Onion + Drop> Manager<K, O> {
 
     fn hand_on_one(&mut self, alloc: Global, channel: usize, output: Output) -> Result<(), Refusal>
         ensures marks_stay { self.new.is_out ≡ self.old.is_out }
+        ensures leads_on { Leads K.signer self.old.channels self.new.channels }
     {
         match output {
             Output::Send(message) => self.post(alloc, channel, message),
@@ -471,6 +506,7 @@ impl<K: ChannelKeys + Drop, O: Onion + Drop> Manager<K, O> {
         outputs: Vec<Output>,
     ) -> Result<(), Refusal>
         ensures marks_stay { self.new.is_out ≡ self.old.is_out }
+        ensures leads_on { Leads K.signer self.old.channels self.new.channels }
     {
         for output in outputs {
             self.hand_on_one(alloc, channel, output)?;
@@ -486,6 +522,7 @@ impl<K: ChannelKeys + Drop, O: Onion + Drop> Manager<K, O> {
         outputs: Vec<Output>,
     ) -> Result<(), Refusal>
         ensures marks_stay { self.new.is_out ≡ self.old.is_out }
+        ensures leads_on { Leads K.signer self.old.channels self.new.channels }
     {
         self.hand_on_all(alloc, channel, outputs)?;
         self.follow(channel)?;
@@ -497,6 +534,7 @@ impl<K: ChannelKeys + Drop, O: Onion + Drop> Manager<K, O> {
     // After a call that a link has done: what it hands out is handed on, or else it halts.
     fn after(&mut self, alloc: Global, channel: usize, outputs: Vec<Output>) -> Result<(), Refusal>
         ensures marks_stay { self.new.is_out ≡ self.old.is_out }
+        ensures leads_on { Leads K.signer self.old.channels self.new.channels }
     {
         match self.hand_on(alloc, channel, outputs) {
             Ok(()) => Ok(()),
@@ -524,6 +562,7 @@ impl<K: ChannelKeys + Drop, O: Onion + Drop> Manager<K, O> {
         refusal: Refusal,
     ) -> Result<(), Refusal>
         ensures marks_stay { self.new.is_out ≡ self.old.is_out }
+        ensures leads_on { Leads K.signer self.old.channels self.new.channels }
     {
         let Some(id) = named else {
             return Ok(());
@@ -548,6 +587,7 @@ impl<K: ChannelKeys + Drop, O: Onion + Drop> Manager<K, O> {
         refusal: Refusal,
     ) -> Result<(), Refusal>
         ensures marks_stay { self.new.is_out ≡ self.old.is_out }
+        ensures leads_on { Leads K.signer self.old.channels self.new.channels }
     {
         self.reply(alloc, channel, named, refusal)?;
         self.follow(channel)?;
@@ -564,6 +604,7 @@ impl<K: ChannelKeys + Drop, O: Onion + Drop> Manager<K, O> {
         refusal: Refusal,
     ) -> Refusal
         ensures marks_stay { self.new.is_out ≡ self.old.is_out }
+        ensures leads_on { Leads K.signer self.old.channels self.new.channels }
     {
         if self.channels.has_halted(channel) {
             self.halt(channel);
@@ -583,6 +624,7 @@ impl<K: ChannelKeys + Drop, O: Onion + Drop> Manager<K, O> {
     // What became of a command of the book: true where a further one may be taken.
     fn conclude(&mut self, alloc: Global, channel: usize, given: Given) -> bool
         ensures marks_stay { self.new.is_out ≡ self.old.is_out }
+        ensures leads_on { Leads K.signer self.old.channels self.new.channels }
     {
         match given {
             Given::Nothing => false,
@@ -599,29 +641,38 @@ impl<K: ChannelKeys + Drop, O: Onion + Drop> Manager<K, O> {
         }
     }
 
+    // A link is given the first command of the book, and its record stands in the open batch. Error: 60 alone.
+    fn obey_book(&mut self, alloc: Global, channel: usize) -> Result<Given, Refusal>
+        ensures marks_stay { self.new.is_out ≡ self.old.is_out }
+        ensures leads_on { Leads K.signer self.old.channels self.new.channels }
+        ensures fails_for_memory_alone { IfErr result (λ r. r ≡ Refusal.Memory) }
+    {
+        let given = self.channels.obey_book(alloc, &self.onion, channel);
+        let batched = batch(
+            &mut self.channels,
+            &mut self.lines,
+            &mut self.is_spent,
+            channel,
+        );
+        Ok(given_if(batched, given?))
+    }
+
     /// What the book commands is done, until nothing is due; what lacks memory is left, and due in the next call.
     pub fn go_on(&mut self, alloc: Global)
         ensures marks_stay { self.new.is_out ≡ self.old.is_out }
+        ensures leads_on { Leads K.signer self.old.channels self.new.channels }
     {
         for _ in 0..u64::MAX {
             let Some(channel) = self.due.first() else {
                 return;
             };
-            let given = self.channels.obey_book(alloc, &self.onion, channel);
-            let batched = batch(
-                &mut self.channels,
-                &mut self.lines,
-                &mut self.is_spent,
-                channel,
-            );
-            match given {
-                Ok(given) => {
-                    if !self.conclude(alloc, channel, given_if(batched, given)) {
-                        self.due.leave();
-                    }
-                }
-                Err(_) => return,
+            let Ok(given) = self.obey_book(alloc, channel) else {
+                return;
+            };
+            if self.conclude(alloc, channel, given) {
+                continue;
             }
+            self.due.leave();
         }
     }
 
@@ -629,6 +680,7 @@ impl<K: ChannelKeys + Drop, O: Onion + Drop> Manager<K, O> {
     /// memory is left, and due in the next call.
     pub fn turn_all(&mut self, alloc: Global)
         ensures marks_stay { self.new.is_out ≡ self.old.is_out }
+        ensures leads_on { Leads K.signer self.old.channels self.new.channels }
     {
         for channel in 0..self.channels.len() {
             self.due.list(channel);
@@ -647,6 +699,8 @@ impl<K: ChannelKeys + Drop, O: Onion + Drop> Manager<K, O> {
         answer: Result<Vec<Output>, Refusal>,
     ) -> Result<(), Refusal>
         ensures marks_stay { self.new.is_out ≡ self.old.is_out }
+        ensures leads_on { Leads K.signer self.old.channels self.new.channels }
+        ensures only_what_was_answered { OnOk result (IsOk answer) }
     {
         let done = match answer {
             Ok(outputs) => self.after(alloc, channel, outputs),
@@ -660,6 +714,8 @@ impl<K: ChannelKeys + Drop, O: Onion + Drop> Manager<K, O> {
     /// those of that call.
     pub fn connect(&mut self, alloc: Global, channel: usize) -> Result<(), Refusal>
         ensures marks_stay { self.new.is_out ≡ self.old.is_out }
+        ensures connects { LeadsBy K.signer (call.Connect channel) (is_ok result) self.old.channels
+            self.new.channels }
     {
         let answer = self.channels.connect(alloc, channel);
         self.finish(alloc, channel, None, answer)
@@ -669,6 +725,8 @@ impl<K: ChannelKeys + Drop, O: Onion + Drop> Manager<K, O> {
     /// Error: 60, by which the link halts.
     pub fn disconnect(&mut self, alloc: Global, channel: usize) -> Result<(), Refusal>
         ensures marks_stay { self.new.is_out ≡ self.old.is_out }
+        ensures disconnects { LeadsBy K.signer (call.Disconnect channel) (is_ok result) self.old.channels
+            self.new.channels }
     {
         self.lines.lose(channel);
         match self.channels.disconnect(alloc, channel) {
@@ -690,6 +748,9 @@ impl<K: ChannelKeys + Drop, O: Onion + Drop> Manager<K, O> {
         message: Message,
     ) -> (bool, Result<(), Refusal>)
         ensures marks_stay { self.new.is_out ≡ self.old.is_out }
+        ensures takes { LeadsBy K.signer (call.Message channel keys message) result.0 self.old.channels
+            self.new.channels }
+        ensures only_what_is_taken { OnOk result.1 (result.0 ≡ true) }
     {
         let named = channel_of(&message);
         let answer = self.channels.message(alloc, channel, keys, message);
@@ -715,6 +776,10 @@ impl<K: ChannelKeys + Drop, O: Onion + Drop> Manager<K, O> {
         command: Command,
     ) -> Result<u64, Refusal>
         ensures marks_stay { self.new.is_out ≡ self.old.is_out }
+        ensures obeys { LeadsBy K.signer (call.Command channel command) (is_ok result) self.old.channels
+            self.new.channels }
+        ensures subject { IfOk result (λ n. n ≡ answers.command_subject
+            (answers.next_id (end_in (slice_get self.old.channels.parts.links channel))) command) }
     {
         let subject = self.channels.subject(channel, &command);
         let answer = self.channels.command(alloc, channel, command);
@@ -733,6 +798,7 @@ impl<K: ChannelKeys + Drop, O: Onion + Drop> Manager<K, O> {
     /// Each channel signs that owes a signature. What a channel refuses is left; one that lacks memory halts.
     pub fn sign(&mut self, alloc: Global)
         ensures marks_stay { self.new.is_out ≡ self.old.is_out }
+        ensures leads_on { Leads K.signer self.old.channels self.new.channels }
     {
         for _ in 0..u64::MAX {
             let Some(channel) = self.unsigned.first() else {
@@ -843,6 +909,8 @@ impl<K: ChannelKeys + Drop, O: Onion + Drop> Manager<K, O> {
         given: Given,
     ) -> Result<(), Refusal>
         ensures marks_stay { self.new.is_out ≡ self.old.is_out }
+        ensures leads_on { Leads K.signer self.old.channels self.new.channels }
+        ensures fails_for_memory_alone { IfErr result (λ r. r ≡ Refusal.Memory) }
     {
         let done = self.conclude(alloc, channel, given);
         self.list_due(target);
@@ -884,6 +952,10 @@ impl<K: ChannelKeys + Drop, O: Onion + Drop> Manager<K, O> {
             (is_with_host channel self.old.is_out) event) (λ r. (result ≡ Err r)
             × (self.new.channels ≡ self.old.channels) × (self.new.is_out ≡ self.old.is_out)) }
         ensures is_over { OnOk result (self.new.is_out ≡ marked_at channel false self.old.is_out) }
+        ensures decides { may_decide (slice_get self.old.channels.parts.links channel)
+            (is_with_host channel self.old.is_out) event ≡ Ok tt
+            → LeadsBy K.signer (call.Decide (O.services self.old.onion) channel verdict) (is_ok result)
+            self.old.channels self.new.channels }
     {
         self.may_decide(channel, event)?;
         let decided = self.channels.decide(alloc, &self.onion, channel, verdict);
@@ -916,6 +988,13 @@ impl<K: ChannelKeys + Drop, O: Onion + Drop> Manager<K, O> {
         ensures only_of_a_link_that_works { OnOk result
             (halted_in (slice_get self.old.channels.parts.links channel) ≡ false) }
         ensures marks_stay { self.new.is_out ≡ self.old.is_out }
+        ensures resumes { halted_in (slice_get self.old.channels.parts.links channel) ≡ false
+            → LeadsBy K.signer (call.Resume (O.services self.old.onion) channel event verdict) (is_ok result)
+            self.old.channels self.new.channels }
+        ensures refuses_for_a_reason { halted_in (slice_get self.old.channels.parts.links channel) ≡ false
+            → IfErr result (λ r. (r ≡ Refusal.Memory) ⊎ ((r ≡ Refusal.NotReady)
+            × HoldsNone (O.services self.old.onion) (working_id (slice_get self.old.channels.parts.links channel)) event
+            verdict self.old.channels.parts.book)) }
     {
         if self.channels.has_halted(channel) {
             return Err(Refusal::Halted);
@@ -945,6 +1024,7 @@ impl<K: ChannelKeys + Drop, O: Onion + Drop> Manager<K, O> {
             parts = record self.old.channels.parts { book = with_height height self.old.channels.parts.book };
           };
         } }
+        ensures leads_on { Leads K.signer self.old.channels self.new.channels }
     {
         self.channels.set_height(height)
     }
@@ -968,6 +1048,7 @@ impl<K: ChannelKeys + Drop, O: Onion + Drop> Manager<K, O> {
         }) }
         ensures changes_nothing_if_refused { OnErr result (self.new ≡ self.old) }
         ensures fails_for_memory_alone { IfErr result (λ r. r ≡ Refusal.Memory) }
+        ensures leads_on { Leads K.signer self.old.channels self.new.channels }
     {
         self.channels.expect(preimage, secret, amount)
     }
@@ -1114,7 +1195,10 @@ impl<K: ChannelKeys + Drop, O: Onion + Drop> Manager<K, O> {
     // ---- a load
 
     // The book hears which payments the end of a channel takes, and its events are for the host again. Error: 60.
-    fn begin_one(&mut self, alloc: Global, channel: usize) -> Result<(), Refusal> {
+    fn begin_one(&mut self, alloc: Global, channel: usize) -> Result<(), Refusal>
+        ensures leads_on { Leads K.signer self.old.channels self.new.channels }
+        ensures fails_for_memory_alone { IfErr result (λ r. r ≡ Refusal.Memory) }
+    {
         let events = event_count(self.channels.end(channel));
         self.make_places(alloc, channel, events)?;
         self.follow(channel)?;
@@ -1123,7 +1207,10 @@ impl<K: ChannelKeys + Drop, O: Onion + Drop> Manager<K, O> {
         Ok(())
     }
 
-    fn begin(&mut self, alloc: Global) -> Result<(), Refusal> {
+    fn begin(&mut self, alloc: Global) -> Result<(), Refusal>
+        ensures leads_on { Leads K.signer self.old.channels self.new.channels }
+        ensures fails_for_memory_alone { IfErr result (λ r. r ≡ Refusal.Memory) }
+    {
         for channel in 0..self.channels.len() {
             self.begin_one(alloc, channel)?;
         }
@@ -1140,7 +1227,11 @@ impl<K: ChannelKeys + Drop, O: Onion + Drop> Manager<K, O> {
         onion: O,
         policy: Policy,
         saved: Vec<Saved<K>>,
-    ) -> Result<Manager<K, O>, Refusal> {
+    ) -> Result<Manager<K, O>, Refusal>
+        ensures loads { IfOk result (λ m. (p : Parts K) × AreLoaded saved.items p
+            × Leads K.signer (record { began = p; parts = p }) m.channels) }
+        ensures fails { IfErr result (λ r. (r ≡ Refusal.Memory) ⊎ LacksSome saved.items no_seats r) }
+    {
         match Channels::load(alloc, saved) {
             Ok(channels) => begun(alloc, Manager::over(alloc, onion, policy, channels)),
             Err(refusal) => {
@@ -1155,7 +1246,10 @@ impl<K: ChannelKeys + Drop, O: Onion + Drop> Manager<K, O> {
 fn begun<K: ChannelKeys + Drop, O: Onion + Drop>(
     alloc: Global,
     manager: Manager<K, O>,
-) -> Result<Manager<K, O>, Refusal> {
+) -> Result<Manager<K, O>, Refusal>
+    ensures leads_on { IfOk result (λ m. Leads K.signer manager.channels m.channels) }
+    ensures fails_for_memory_alone { IfErr result (λ r. r ≡ Refusal.Memory) }
+{
     let mut manager = manager;
     match manager.begin(alloc) {
         Ok(()) => Ok(manager),

@@ -1,6 +1,9 @@
 use Rattle.std.proofs.Common.{◌≡◌}
+use Rattle.ln_manager.specs.Leads.{Leads}
 use Rattle.ln_manager.proofs.manager.Manager.sign.Given as goal
 
--- the marks stay
+-- the marks stay, and calls lead on
 abbrev pub invariant-loop : goal.invariant-loop
-invariant-loop g l = l.self.is_out ≡ l.fn.self.is_out
+invariant-loop g l =
+    (l.self.is_out ≡ l.fn.self.is_out)
+    × Leads g.K.ChannelKeys.signer l.fn.self.channels l.self.channels
