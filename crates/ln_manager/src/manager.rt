@@ -1,6 +1,7 @@
 //! A routing node without threads.
 
 ghost use Rattle.std.specs.Prelude.{◌≡◌, ◌||◌, true, List, IfOk, IfErr, OnOk, OnErr};
+ghost use Rattle.ln_batches.specs.Queues.{IsSpent};
 ghost use Rattle.ln_manager.specs.Leads.{Leads};
 ghost use Rattle.ln_manager.specs.Managed.{ChangesOneAt, given_if, if_batched};
 ghost use Rattle.ln_manager_channels.specs.Calls as call;
@@ -122,6 +123,7 @@ fn batch<K: ChannelKeys + Drop>(
         × Makes K.signer (call.Batch channel) channels.old.parts channels.new.parts) }
     ensures or_halts { OnErr result ((is_spent.new ≡ true)
         × Makes K.signer (call.Halt channel) channels.old.parts channels.new.parts) }
+    ensures refuses_for_a_reason { IfErr result (IsSpent lines.old.records) }
 {
     match channels.batch(lines, channel) {
         Ok(()) => Ok(()),

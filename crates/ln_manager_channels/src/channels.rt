@@ -58,7 +58,7 @@ impl<K: ChannelKeys + Drop> Drop for Channels<K> {
 impl<K: ChannelKeys + Drop> Channels<K> {
     ghost use Rattle.std.specs.Prelude.{◌≡◌, ◌⊎◌, ◌++◌, ◌∷◌, [], length, slice_get, option_copied, IfOk, IfErr, OnOk};
     ghost use Rattle.std.specs.Prelude.{OnErr, if◌then◌else◌};
-    ghost use Rattle.ln_batches.specs.Queues.{changed};
+    ghost use Rattle.ln_batches.specs.Queues.{IsSpent, changed};
     ghost use Rattle.ln_channel.specs.declared.machine.Stage.TheVariants as stage;
     ghost use Rattle.ln_channel.specs.State.{begun};
     ghost use Rattle.ln_history.specs.History.{begun_with};
@@ -268,6 +268,7 @@ impl<K: ChannelKeys + Drop> Channels<K> {
             then changed channel (event_count (end_in (slice_get self.old.parts.links channel))) lines.old
             else lines.old)) }
         ensures batched { OnOk result (self.new.parts.records ≡ changed_at channel batched self.old.parts.records) }
+        ensures refuses_for_a_reason { IfErr result (IsSpent lines.old.records) }
         ensures lines_stay_if_refused { OnErr result (lines.new ≡ lines.old) }
         ensures records_stay_if_refused { OnErr result (self.new.parts.records ≡ self.old.parts.records) }
         ensures links_stay { self.new.parts.links ≡ self.old.parts.links }
