@@ -13,6 +13,7 @@ use ln_keys::{ChannelKeys, Onion};
 use ln_node_loops::{Orders, Table};
 use ln_refusals::Refusal;
 use ln_store::RecordStore;
+use std::alloc::AllocError;
 use std::io::{Read, Write};
 use std::net::OpenStream;
 use std::sync::atomic::{AtomicU64, Ordering};
@@ -113,23 +114,23 @@ pub(crate) struct OrderReplies {
 }
 
 impl OrderReplies {
-    ghost use Rattle.std.specs.Prelude.{◌≡◌, []};
+    ghost use Rattle.std.specs.Prelude.{◌≡◌, [], IfOk};
 
     /// Into these answers, of a channel of this number, where nothing was replied. Takes no memory.
     pub(crate) fn new(
-        answers: Arc<OrderAnswers>,
-        notices: Arc<Notices>,
+        answers: &Arc<OrderAnswers>,
+        notices: &Arc<Notices>,
         channel: usize,
-    ) -> OrderReplies
-        ensures nothing_was_replied { result.replied.told.entries ≡ [] }
+    ) -> Result<OrderReplies, AllocError>
+        ensures nothing_was_replied { IfOk result (λ r. r.replied.told.entries ≡ []) }
     {
-        OrderReplies {
-            answers,
-            notices,
+        Ok(OrderReplies {
+            answers: Arc::try_clone(answers)?,
+            notices: Arc::try_clone(notices)?,
             channel,
             replied: Past::begun(&()),
             allowed: Past::begun(&()),
-        }
+        })
     }
 }
 
@@ -198,7 +199,7 @@ where
     {
         match self.channels.get(ticket.channel) {
             None => Answer::Forgotten,
-            Some(threads) => threads.answers().wait(rt, ticket.number, millis),
+            Some(threads) => threads.access.answers.wait(rt, ticket.number, millis),
         }
     }
 }

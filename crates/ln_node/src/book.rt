@@ -65,10 +65,40 @@ pub(crate) struct Common<O: Drop> {
     pub(crate) greeting: Arc<Greeting>,
     /// What wakes the workers of its channels.
     pub(crate) wakeups: Arc<Wakeups>,
-    /// What has become of its channels.
+    /// What has become of its channels, and what it has done.
     pub(crate) notices: Arc<Notices>,
-    /// What it has done.
-    pub(crate) monitor: Arc<Monitor>,
+}
+
+impl<O: Drop> Common<O> {
+    ghost use Rattle.std.specs.Arc.{arc_value};
+    ghost use Rattle.ln_node.specs.Books.{begun_in};
+
+    /// That of a node without channels, whose book is this one, and which is watched here. Takes memory.
+    pub(crate) fn new(
+        alloc: Global,
+        onion: O,
+        policy: Policy,
+        greeting: Greeting,
+        book: NodeBook,
+        monitor: Arc<Monitor>,
+    ) -> Result<Common<O>, AllocError>
+        ensures asks_by_the_policy { IfOk result (λ c. c.policy ≡ policy) }
+        ensures greets_so { IfOk result (λ c. arc_value c.greeting ≡ greeting) }
+        ensures begins_with_the_book { IfOk result (λ c. begun_in c ≡ book.begun.value) }
+    {
+        let book = Arc::new(alloc, book)?;
+        let greeting = Arc::new(alloc, greeting)?;
+        let notices = Arc::new(alloc, Notices::new(alloc, monitor)?)?;
+        let wakeups = Arc::new(alloc, Wakeups::new(alloc))?;
+        Ok(Common {
+            book,
+            onion,
+            policy,
+            greeting,
+            wakeups,
+            notices,
+        })
+    }
 }
 
 // The channel in which a payment goes on that is decided so.

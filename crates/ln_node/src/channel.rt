@@ -16,10 +16,10 @@ use crate::signing::Signing;
 use crate::socket::Socket;
 use crate::start::{Reading, Stores, start_dispatcher, start_reader, start_worker};
 use crate::wakeups::ChannelWakeup;
-use ln_channel::Command;
-use ln_log::ChannelId;
-use ln_node_loops::{Item, ReadsEnds, Table, Task, Worker, WorkerLoop, put};
-use ln_relay::{RecvSeat, SendSeat, Sends, WaitRecv, WaitSend, relay, waiting_relay};
+use ln_channel::{ChannelMachine, Command};
+use ln_keys::ChannelKeys;
+use ln_node_loops::{Item, Orders, ReadsEnds, Table, Task, Worker, WorkerLoop, put};
+use ln_relay::{Receives, RecvSeat, SendSeat, Sends, WaitRecv, WaitSend, relay, waiting_relay};
 use ln_watch::Watch;
 use std::alloc::{AllocError, Global};
 use std::io::{Read, Write};
@@ -42,10 +42,12 @@ pub(crate) type ReadSeat<W> = PatientSeat<ItemSeat<W>>;
 /// A channel of a node, whose records are in an `S`. What its threads have is no part of it.
 #[derive(Drop)]
 pub(crate) struct ChannelThreads<S: Drop, H: Drop, W: Drop> {
-    access: Access<W>,
+    /// What its callers reach.
+    pub(crate) access: Access<W>,
     orders: Mutex<ItemSeat<W>>,
     hooks: Mutex<WaitSend<Task<H>>>,
-    bound: Option<SocketAddr>,
+    /// Where it listens.
+    pub(crate) bound: Option<SocketAddr>,
     reader: JoinHandle<()>,
     worker: JoinHandle<S>,
     dispatcher: JoinHandle<()>,
@@ -64,6 +66,30 @@ pub(crate) struct Access<W: Drop> {
     pub(crate) watch: Arc<Watch>,
     /// What its peer tells of itself.
     pub(crate) peer: Arc<Peer>,
+}
+
+impl<W: Drop> Access<W> {
+    /// Of a new channel with this link and these connections, which signs so. Takes memory.
+    pub(crate) fn new<K: ChannelKeys + Drop>(
+        alloc: Global,
+        connections: Connections<W>,
+        link: &ChannelMachine<K>,
+        signing: Signing,
+    ) -> Result<Access<W>, AllocError> {
+        Ok(Access {
+            connections: Arc::new(alloc, connections)?,
+            wakeup: Arc::new(alloc, ChannelWakeup::new())?,
+            answers: Arc::new(alloc, OrderAnswers::new(signing))?,
+            watch: Arc::new(alloc, Watch::new(alloc, link))?,
+            peer: Arc::new(alloc, Peer::new())?,
+        })
+    }
+
+    /// It signs so from now on.
+    pub(crate) fn set_signing(&self, signing: Signing) {
+        self.answers.set_signing(signing);
+        self.wakeup.wakeup.ring();
+    }
 }
 
 /// What a new channel has of its node.
@@ -125,10 +151,10 @@ fn register<H: Drop, S: Sends<Task<H>>, R: Wait>(rt: &R, seat: &mut S, hook: H) 
     }
 }
 
-// Stops a dispatcher, and joins it.
-fn stop_dispatcher<H: Drop, R: Threads + Wait>(
+// Stops a dispatcher by this seat, and joins it.
+fn stop_dispatcher<H: Drop, S: Sends<Task<H>> + Drop, R: Threads + Wait>(
     rt: &R,
-    seat: WaitSend<Task<H>>,
+    seat: S,
     dispatcher: JoinHandle<()>,
 ) {
     let mut seat = seat;
@@ -136,12 +162,12 @@ fn stop_dispatcher<H: Drop, R: Threads + Wait>(
     dispatcher.join(rt);
 }
 
-// Stops a worker, and joins it. Gives its store back.
-fn stop_worker<S: Drop, W: Drop, R: Threads + Wait>(
+// Stops a worker by this seat, and joins it. Gives its store back.
+fn stop_worker<J: Drop, S: Sends<Item<J>> + Drop, E: Drop, R: Threads + Wait>(
     rt: &R,
-    seat: ItemSeat<W>,
-    worker: JoinHandle<S>,
-) -> S {
+    seat: S,
+    worker: JoinHandle<E>,
+) -> E {
     let mut seat = seat;
     put(rt, &mut seat, Item::Stop);
     worker.join(rt)
@@ -165,27 +191,6 @@ where
         self.access.answers.count(rt, put)
     }
 
-    /// Where its orders are answered.
-    pub(crate) fn answers(&self) -> &OrderAnswers {
-        &self.access.answers
-    }
-
-    /// It signs so from now on.
-    pub(crate) fn set_signing(&self, signing: Signing) {
-        self.access.answers.set_signing(signing);
-        self.wake();
-    }
-
-    /// Wakes its worker.
-    pub(crate) fn wake(&self) {
-        self.access.wakeup.wakeup.ring();
-    }
-
-    /// Which channel it is, once both have signed its opening.
-    pub(crate) fn id(&self) -> Option<&ChannelId> {
-        self.access.wakeup.id.get()
-    }
-
     /// Hands a hook to its dispatcher; a full relay hands it back.
     pub(crate) fn register_hook<R: Wait>(&self, rt: &R, hook: H) -> Result<(), H>
         ensures hands_back { IfErr result (λ back. back ≡ hook) }
@@ -194,44 +199,15 @@ where
         register(rt, &mut *seat, hook)
     }
 
-    /// Shuts its connection. A reader that waits for the next one looks again.
-    pub(crate) fn shut<R: Wait>(&self, rt: &R) {
-        self.access.connections.shut(rt);
-        self.access.connections.wake();
-    }
-
     /// Shuts its connection, and ends an accept that waits by a connection of the node's own.
     pub(crate) fn stop<R>(&self, rt: &R)
     where
         R: Net<Stream = W> + Wait,
     {
-        self.shut(rt);
+        self.access.connections.hang_up(rt);
         if let Some(bound) = self.bound {
             let _ = TcpStream::connect(rt, bound);
         }
-    }
-
-    /// Its summary.
-    pub(crate) fn watch(&self) -> &Watch {
-        &self.access.watch
-    }
-
-    /// What its peer tells of itself.
-    pub(crate) fn peer(&self) -> &Peer {
-        &self.access.peer
-    }
-
-    /// Where it listens.
-    pub(crate) fn bound(&self) -> Option<SocketAddr>
-        ensures { result ≡ self.now.bound }
-    {
-        self.bound
-    }
-
-    /// Shuts its connection, and has this one read next.
-    pub(crate) fn reconnect<R: Wait>(&self, rt: &R, stream: W) {
-        self.access.connections.shut(rt);
-        self.access.connections.follow(rt, stream);
     }
 
     /// Joins its threads, the reader first: it is shut. Gives its store back.
@@ -310,6 +286,38 @@ fn new_seats<H: Drop, W: Drop>(
     })
 }
 
+// Starts the threads of an end and of its connections. Where there is none for these the other one is stopped, by this
+// seat. Generic in all that they have: it doesn't matter how deep it is.
+fn start_ends<E, W, I, H, V, B, A, S, L, O, R>(
+    rt: R,
+    alloc: Global,
+    greeting: Arc<Greeting>,
+    work: WorkerLoop<E, Socket<W>, I, V, B, A>,
+    reading: Reading<S, L, W>,
+    orders: O,
+) -> Option<(O, JoinHandle<E::Store>, JoinHandle<()>)>
+where
+    E: Stores + Drop + Send + 'static,
+    E::Store: Drop + Send + 'static,
+    W: Read + Write + OpenStream + Drop + Send + 'static,
+    I: Receives<Item<Socket<W>>> + Drop + Send + 'static,
+    H: Drop + Send + 'static,
+    V: Sends<Task<H>> + Drop + Send + 'static,
+    B: ReadsEnds<E> + Drop + Send + 'static,
+    A: Orders + Drop + Send + 'static,
+    S: Sends<Item<Socket<W>>> + Drop + Send + 'static,
+    L: OpenListener<Stream = W> + Drop + Send + 'static,
+    O: Sends<Item<Socket<W>>> + Drop,
+    R: Threads + Wait + Copy + Send + 'static,
+{
+    let worker = start_worker::<E, Socket<W>, I, H, V, B, A, R>(rt, alloc, greeting, work)?;
+    let Some(reader) = start_reader::<S, L, W, R>(rt, alloc, reading) else {
+        drop(stop_worker::<Socket<W>, O, E::Store, R>(&rt, orders, worker));
+        return None;
+    };
+    Some((orders, worker, reader))
+}
+
 /// Starts the threads of a channel: its dispatcher, its worker, its reader. Takes memory for its relays. Nothing where
 /// there is no memory, or no thread can be made.
 pub(crate) fn start<E, B, H, T, W, L, R>(
@@ -369,21 +377,20 @@ where
     let Some((work, dispatcher)) = with(work, made) else {
         return Err(AllocError);
     };
-    let Some(worker) = start_worker::<
+    let ends = start_ends::<
         E,
-        Socket<W>,
+        W,
         RecvSeat<Item<Socket<W>>>,
         H,
         WaitSend<Task<H>>,
         B,
         OrderReplies,
+        ReadSeat<W>,
+        L,
+        ItemSeat<W>,
         R,
-    >(rt, alloc, greeting, work) else {
-        stop_dispatcher(&rt, hooks, dispatcher);
-        return Err(AllocError);
-    };
-    let Some(reader) = start_reader::<ReadSeat<W>, L, W, R>(rt, alloc, reading) else {
-        drop(stop_worker(&rt, orders, worker));
+    >(rt, alloc, greeting, work, reading, orders);
+    let Some((orders, worker, reader)) = ends else {
         stop_dispatcher(&rt, hooks, dispatcher);
         return Err(AllocError);
     };

@@ -5,22 +5,19 @@ ghost use Rattle.std.specs.Prelude.{length};
 ghost use Rattle.ln_refusals.specs.declared.refusal.Refusal.TheVariants as refusal;
 ghost use Rattle.ln_node.specs.Node.{HasOneMore};
 
-use crate::asking::{OrderAnswers, OrderReplies};
+use crate::asking::OrderReplies;
 use crate::book::{Common, SharedBook};
 use crate::channel::{Access, ChannelThreads, Parts, Shares, start};
 use crate::greeting::Greeting;
 use crate::held::numbered;
 use crate::node_book::NodeBook;
-use crate::notices::Notices;
 use crate::observed::ObservedStore;
-use crate::observer::{Monitor, Observer};
+use crate::observer::Monitor;
 use crate::opening::NodeLink;
-use crate::peer::Peer;
 use crate::reader::Connections;
 use crate::signing::Signing;
 use crate::start::Stores;
 use crate::stored::{Loaded, Stored, book_of, load_all};
-use crate::wakeups::{ChannelWakeup, Wakeups};
 use ln_book::Book;
 use ln_book_tables::HeldHtlc;
 use ln_bytes::Bytes;
@@ -32,7 +29,6 @@ use ln_log::{ChannelId, Mark};
 use ln_node_loops::{Notice, ReadsEnds, Table};
 use ln_refusals::Refusal;
 use ln_store::RecordStore;
-use ln_watch::Watch;
 use std::alloc::{AllocError, Global};
 use std::io::{Read, Write};
 use std::marker::PhantomData;
@@ -238,21 +234,8 @@ where
         ensures begins_with_the_book { IfOk result (λ n. begun_of n ≡ book.begun.value) }
         ensures has_no_channel { IfOk result (λ n. channel_count n ≡ 0) }
     {
-        let book = Arc::new(alloc, book)?;
-        let notices = Notices::new(alloc, Arc::try_clone(&monitor)?)?;
-        let notices = Arc::new(alloc, notices)?;
-        let wakeups = Arc::new(alloc, Wakeups::new(alloc))?;
+        let common = Common::new(alloc, onion, policy, greeting, book, monitor)?;
         let stopping = Arc::new(alloc, AtomicU64::new(0))?;
-        let greeting = Arc::new(alloc, greeting)?;
-        let common = Common {
-            book,
-            onion,
-            policy,
-            greeting,
-            wakeups,
-            notices,
-            monitor,
-        };
         Ok(Node {
             stopping,
             common,
@@ -273,37 +256,13 @@ where
         self.common.notices.take(rt, alloc)
     }
 
-    // The connections of a new channel.
-    fn connections(&self, alloc: Global) -> Result<Arc<Connections<W>>, Refusal> {
-        let stopping = Arc::try_clone(&self.stopping)?;
-        let notices = Arc::try_clone(&self.common.notices)?;
-        let connections = Connections::new(stopping, notices, self.channels.len());
-        Ok(Arc::new(alloc, connections)?)
-    }
-
-    // The answers to a new channel's orders, as its worker gives them.
-    fn replies(&self, answers: Arc<OrderAnswers>) -> Result<OrderReplies, AllocError> {
-        let notices = Arc::try_clone(&self.common.notices)?;
-        Ok(OrderReplies::new(answers, notices, self.channels.len()))
-    }
-
-    // The store of a new channel, which is watched.
-    fn observed(&self, alloc: Global, store: S) -> Result<ObservedStore<S>, AllocError>
-        ensures keeps_it { IfOk result (λ s. s.inner ≡ store) }
-    {
-        let observer = Observer::new(alloc, &self.common.monitor, self.channels.len())?;
-        Ok(ObservedStore {
-            inner: store,
-            observer,
-        })
-    }
-
-    // What a new channel with this end has of the node.
+    // What a new channel with this end has of the node, and which connection is read next, where there is one.
     fn shares<R: Wait>(
         &self,
         rt: &R,
         alloc: Global,
         end: &NodeLink<K, S>,
+        next: Option<W>,
     ) -> Result<Shares<SharedBook<O>, W>, Refusal>
         ensures reach_the_book { IfOk result (λ s. (begun_at s.book ≡ begun_of self.now)
             × (begun_at s.decisions ≡ begun_of self.now)) }
@@ -313,41 +272,35 @@ where
             × (handles.said s.decisions.handle ≡ [])) }
         ensures greets_so { IfOk result (λ s. arc_value s.greeting ≡ greeting_of self.now) }
     {
-        self.common.wakeups.reserve(rt, self.channels.len())?;
-        let wakeup = Arc::new(alloc, ChannelWakeup::new())?;
-        let connections = self.connections(alloc)?;
-        let watch = Arc::new(alloc, Watch::new(alloc, end.saved.link.channel_machine()))?;
-        let answers = Arc::new(alloc, OrderAnswers::new(self.signing))?;
-        let replies = self.replies(Arc::try_clone(&answers)?)?;
-        let access = Access {
-            wakeup,
-            answers,
-            connections,
-            watch,
-            peer: Arc::new(alloc, Peer::new())?,
-        };
         let number = self.channels.len();
+        let notices = &self.common.notices;
+        let connections = Connections::new(&self.stopping, notices, number, next)?;
+        self.common.wakeups.reserve(rt, number)?;
+        let link = end.saved.link.channel_machine();
+        let access = Access::new(alloc, connections, link, self.signing)?;
+        let replies = OrderReplies::new(&access.answers, notices, number)?;
+        let greeting = Arc::try_clone(&self.common.greeting)?;
         let observer = &end.saved.store.observer;
         let (book, decisions) = SharedBook::pair(alloc, &self.common, &access, observer, number)?;
         Ok(Shares {
-            greeting: Arc::try_clone(&self.common.greeting)?,
-            decisions,
+            greeting,
             book,
+            decisions,
             replies,
             access,
         })
     }
 
-    // Starts a channel.
+    // Starts a channel: it listens where it is told to, or reads the next connection, where there is one.
     fn start<L, R>(
         &mut self,
         rt: R,
         alloc: Global,
-        shares: Shares<SharedBook<O>, W>,
         end: NodeLink<K, S>,
         table: T,
         listener: Option<L>,
         bound: Option<SocketAddr>,
+        next: Option<W>,
     ) -> Result<(), Refusal>
     where
         L: OpenListener<Stream = W> + Drop + Send + 'static,
@@ -356,6 +309,10 @@ where
         ensures adds_one { OnOk result (HasOneMore bound self.old.channels.items self.new.channels.items) }
         ensures adds_none_if_refused { OnErr result (self.new.channels.items ≡ self.old.channels.items) }
     {
+        let shares = self.shares(&rt, alloc, &end, next)?;
+        if let Some(channel) = end.saved.link.channel_machine().saved() {
+            shares.book.publish(&rt, channel.id());
+        }
         let parts = Parts {
             end,
             shares,
@@ -390,10 +347,11 @@ where
         ensures adds_none_if_refused { OnErr result (channel_count self.new ≡ channel_count self.old) }
         ensures listens_there { IfOk result (λ bound. address_of self.new (channel_count self.old) ≡ Some bound) }
     {
-        let end = NodeLink::fundee(alloc, keys, config, self.observed(alloc, store)?)?;
+        let monitor = &self.common.notices.monitor;
+        let store = ObservedStore::new(alloc, monitor, self.channels.len(), store)?;
+        let end = NodeLink::fundee(alloc, keys, config, store)?;
         let (listener, bound) = bind(&rt, address)?;
-        let shares = self.shares(&rt, alloc, &end)?;
-        self.start(rt, alloc, shares, end, table, Some(listener), Some(bound))?;
+        self.start(rt, alloc, end, table, Some(listener), Some(bound), None)?;
         Ok(bound)
     }
 
@@ -419,13 +377,13 @@ where
         ensures adds_one { OnOk result (channel_count self.new ≡ channel_count self.old + 1) }
         ensures adds_none_if_refused { OnErr result (channel_count self.new ≡ channel_count self.old) }
     {
-        let end = NodeLink::funder(alloc, keys, spec, self.observed(alloc, store)?)?;
+        let monitor = &self.common.notices.monitor;
+        let store = ObservedStore::new(alloc, monitor, self.channels.len(), store)?;
+        let end = NodeLink::funder(alloc, keys, spec, store)?;
         let Ok(stream) = TcpStream::connect(&rt, address) else {
             return Err(Refusal::Io);
         };
-        let shares = self.shares(&rt, alloc, &end)?;
-        shares.access.connections.follow(&rt, stream);
-        self.start::<R::Listener, R>(rt, alloc, shares, end, table, None, None)
+        self.start::<R::Listener, R>(rt, alloc, end, table, None, None, Some(stream))
     }
 
     /// Connects a channel with its peer again, which is listening at the address: a channel that `connect` has made, or
@@ -442,20 +400,20 @@ where
         let Some(channel) = self.channels.get(channel) else {
             return Err(Refusal::NotReady);
         };
-        if channel.bound().is_some() {
+        if channel.bound.is_some() {
             return Err(Refusal::NotReady);
         }
         let Ok(stream) = TcpStream::connect(rt, address) else {
             return Err(Refusal::Io);
         };
-        channel.reconnect(rt, stream);
+        channel.access.connections.follow(rt, stream);
         Ok(())
     }
 
     /// Shuts the connection of a channel, where it has one. A channel that listens goes on with the next connection.
     pub fn hang_up<R: Wait>(&self, rt: &R, channel: usize) {
         if let Some(channel) = self.channels.get(channel) {
-            channel.shut(rt);
+            channel.access.connections.hang_up(rt);
         }
     }
 
@@ -463,7 +421,10 @@ where
     pub fn address(&self, channel: usize) -> Option<SocketAddr>
         ensures { result ≡ address_of self.now channel }
     {
-        self.channels.get(channel)?.bound()
+        match self.channels.get(channel) {
+            None => None,
+            Some(channel) => channel.bound,
+        }
     }
 
     // Starts a channel whose end was loaded.
@@ -482,11 +443,7 @@ where
         ensures adds_one { OnOk result (channel_count self.new ≡ channel_count self.old + 1) }
     {
         let (listener, bound) = bind_if::<R::Listener, R>(&rt, address)?;
-        let shares = self.shares(&rt, alloc, &end)?;
-        if let Some(channel) = end.saved.link.channel_machine().saved() {
-            shares.book.publish(&rt, channel.id());
-        }
-        self.start(rt, alloc, shares, end, table, listener, bound)
+        self.start(rt, alloc, end, table, listener, bound, None)
     }
 
     // Starts channels whose ends were loaded.
@@ -580,7 +537,10 @@ where
     ) -> Result<Mark, Refusal>
         ensures refuses_where_there_is_none { channel_count self.now ≤ channel → result ≡ Err refusal.NotReady }
     {
-        let Some(id) = self.id(channel) else {
+        let Some(held) = self.channels.get(channel) else {
+            return Err(Refusal::NotReady);
+        };
+        let Some(id) = held.access.wakeup.id.get() else {
             return Err(Refusal::NotReady);
         };
         let answer = self
@@ -588,13 +548,11 @@ where
             .book
             .kept
             .lock(rt)
-            .resume(alloc, &self.common.onion, id, number, verdict);
+            .resume(alloc, &self.common.onion, *id, number, verdict);
         if let Ok(mark) = &answer {
-            self.common.monitor.tally.decide(mark);
+            self.common.notices.monitor.tally.decide(mark);
         }
-        if let Some(channel) = self.channels.get(channel) {
-            channel.wake();
-        }
+        held.access.wakeup.wakeup.ring();
         answer
     }
 
@@ -615,16 +573,9 @@ where
     {
         let mut ids = Vec::new(alloc);
         for channel in &self.channels {
-            ids.push(channel.id().copied())?;
+            ids.push(channel.access.wakeup.id.get().copied())?;
         }
         Ok(ids)
-    }
-
-    // Which channel it is, once both have signed its opening.
-    fn id(&self, channel: usize) -> Option<ChannelId>
-        ensures knows_none_where_there_is_none { channel_count self.now ≤ channel → result ≡ None }
-    {
-        self.channels.get(channel)?.id().copied()
     }
 
     /// Registers a hook, which is called on each of a channel's events from then on. A full relay, or a channel that

@@ -58,7 +58,8 @@ impl NoticeRing {
 #[derive(Drop)]
 pub(crate) struct Notices {
     kept: Mutex<NoticeRing>,
-    monitor: Arc<Monitor>,
+    /// What the node has done.
+    pub(crate) monitor: Arc<Monitor>,
 }
 
 impl Notices {

@@ -1,12 +1,12 @@
 //! A store that is watched.
 
-ghost use Rattle.std.specs.Prelude.{◌≡◌};
+ghost use Rattle.std.specs.Prelude.{◌≡◌, IfOk};
 
-use crate::observer::Observer;
+use crate::observer::{Monitor, Observer};
 use ln_bytes::Bytes;
 use ln_refusals::Refusal;
 use ln_store::RecordStore;
-use std::alloc::Global;
+use std::alloc::{AllocError, Global};
 use std::sync::Arc;
 
 /// A channel's store, and what watches the channel.
@@ -16,6 +16,21 @@ pub(crate) struct ObservedStore<S: Drop> {
     pub(crate) inner: S,
     /// What watches its channel.
     pub(crate) observer: Arc<Observer>,
+}
+
+impl<S: Drop> ObservedStore<S> {
+    /// A channel's store, which is watched here. Takes memory.
+    pub(crate) fn new(
+        alloc: Global,
+        monitor: &Arc<Monitor>,
+        channel: usize,
+        inner: S,
+    ) -> Result<ObservedStore<S>, AllocError>
+        ensures keeps_it { IfOk result (λ s. s.inner ≡ inner) }
+    {
+        let observer = Observer::new(alloc, monitor, channel)?;
+        Ok(ObservedStore { inner, observer })
+    }
 }
 
 impl<S: RecordStore + Drop> RecordStore for ObservedStore<S> {

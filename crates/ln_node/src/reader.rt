@@ -6,7 +6,7 @@ use crate::wakeup::Wakeup;
 use ln_msgs::Counted;
 use ln_node_loops::{Item, Notice, reader_loop};
 use ln_relay::Sends;
-use std::alloc::Global;
+use std::alloc::{AllocError, Global};
 use std::io;
 use std::io::{Read, Write};
 use std::net::{OpenListener, OpenStream, Shutdown};
@@ -29,41 +29,44 @@ pub(crate) struct Connections<W: Drop> {
 }
 
 impl<W: Read + Write + OpenStream + Drop> Connections<W> {
-    /// None, of this channel of a node.
+    /// Those of this channel of a node: none yet, and which is read next. Takes no memory of its own.
     pub(crate) fn new(
-        stopping: Arc<AtomicU64>,
-        notices: Arc<Notices>,
+        stopping: &Arc<AtomicU64>,
+        notices: &Arc<Notices>,
         channel: usize,
-    ) -> Connections<W> {
-        Connections {
+        next: Option<W>,
+    ) -> Result<Connections<W>, AllocError> {
+        Ok(Connections {
+            next: Mutex::new(next),
+            stopping: Arc::try_clone(stopping)?,
+            notices: Arc::try_clone(notices)?,
             open: Mutex::new(None),
-            next: Mutex::new(None),
             wakeup: Wakeup::new(),
-            stopping,
-            notices,
             channel,
-        }
+        })
     }
 
     fn stops(&self) -> bool {
         self.stopping.load(Ordering::SeqCst) != 0
     }
 
-    /// Shuts the one that is open.
-    pub(crate) fn shut<R: Wait>(&self, rt: &R) {
+    // Shuts the one that is open.
+    fn shut<R: Wait>(&self, rt: &R) {
         let open = self.open.lock(rt).take();
         if let Some(stream) = open {
             let _ = stream.shutdown(Shutdown::Both);
         }
     }
 
-    /// Wakes a reader that waits for the next one.
-    pub(crate) fn wake(&self) {
+    /// Shuts the one that is open. A reader that waits for the next one looks again.
+    pub(crate) fn hang_up<R: Wait>(&self, rt: &R) {
+        self.shut(rt);
         self.wakeup.ring();
     }
 
-    /// Has this one read next, once the one that is open is over.
+    /// Shuts the one that is open, and has this one read next.
     pub(crate) fn follow<R: Wait>(&self, rt: &R, stream: W) {
+        self.shut(rt);
         *self.next.lock(rt) = Some(stream);
         self.wakeup.ring();
     }

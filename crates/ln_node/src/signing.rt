@@ -38,7 +38,7 @@ where
     {
         self.signing = signing;
         for channel in &self.channels {
-            channel.set_signing(signing);
+            channel.access.set_signing(signing);
         }
     }
 
@@ -52,7 +52,7 @@ where
         match self.channels.get(channel) {
             None => Err(Refusal::NotReady),
             Some(channel) => {
-                channel.set_signing(signing);
+                channel.access.set_signing(signing);
                 Ok(())
             }
         }

@@ -8,7 +8,7 @@ ghost use Rattle.ln_node.specs.Stored.{first_record, ComesFrom, IsLoaded, AreLoa
 
 use crate::node_book::NodeBook;
 use crate::observed::ObservedStore;
-use crate::observer::{Monitor, Observer};
+use crate::observer::Monitor;
 use crate::opening::NodeLink;
 use ln_book::{ChannelSnapshot, read_end};
 use ln_bytes::Bytes;
@@ -112,11 +112,7 @@ fn load_one<K: ChannelKeys + Drop, S: RecordStore + Drop, T: Drop>(
         table,
         address,
     } = stored;
-    let observer = Observer::new(alloc, monitor, channel)?;
-    let store = ObservedStore {
-        inner: store,
-        observer,
-    };
+    let store = ObservedStore::new(alloc, monitor, channel, store)?;
     let end = load_end(alloc, keys, store)?;
     Ok(Loaded {
         end,

@@ -41,7 +41,7 @@ where
     {
         match self.channels.get(channel) {
             None => Err(Refusal::NotReady),
-            Some(channel) => channel.watch().summary(rt),
+            Some(channel) => channel.access.watch.summary(rt),
         }
     }
 
@@ -55,7 +55,7 @@ where
     {
         let mut all = Vec::new(alloc);
         for channel in &self.channels {
-            all.push(channel.watch().summary(rt)?)?;
+            all.push(channel.access.watch.summary(rt)?)?;
         }
         Ok(all)
     }
@@ -76,24 +76,24 @@ where
         let Some(channel) = self.channels.get(channel) else {
             return Err(Refusal::NotReady);
         };
-        Ok(channel.peer().init(rt, alloc)?)
+        Ok(channel.access.peer.init(rt, alloc)?)
     }
 
     /// How often it has done what since it was made. Takes no memory.
     pub fn counters(&self) -> &Counters {
-        self.common.monitor.tally.counters()
+        self.common.notices.monitor.tally.counters()
     }
 
     /// Traces from now on, and keeps up to so many steps of all channels until `traced` fetches them: messages that
     /// links take and hand out, saves, and notices. Later ones are lost and counted, and no thread waits. Where that is
     /// 0, as at first, none is traced, which costs a test a step. Takes no memory.
     pub fn trace(&self, most: u64) {
-        self.common.monitor.traces.keep(most);
+        self.common.notices.monitor.traces.keep(most);
     }
 
     /// What was traced since this was called last, the oldest first. A step of a turn is there after the turn. Takes no
     /// memory.
     pub fn traced<R: Wait>(&self, rt: &R, alloc: Global) -> Trace {
-        self.common.monitor.traces.take(rt, alloc)
+        self.common.notices.monitor.traces.take(rt, alloc)
     }
 }
