@@ -197,7 +197,8 @@ impl<K: ChannelKeys + Drop, O: Onion + Drop> Manager<K, O> {
     ghost use Rattle.ln_manager_channels.specs.Books.{height_answer, with_height};
     ghost use Rattle.ln_manager_channels.specs.Calls as call;
     ghost use Rattle.ln_manager_channels.specs.Calls.{AreLoaded, Parts, no_parts};
-    ghost use Rattle.ln_manager_channels.specs.Links.{end_in, halted_in, number_in, working_id};
+    ghost use Rattle.ln_manager_channels.specs.Events as events;
+    ghost use Rattle.ln_manager_channels.specs.Links.{end_in, halted_in, number_in, working_end, working_id};
     ghost use Rattle.ln_manager_channels.specs.Loading.{LacksSome, no_seats};
     ghost use Rattle.ln_manager_channels.specs.Moves.{none_fresh, naming_in, with_funding};
     ghost use Rattle.ln_manager_channels.specs.Obeying.{HoldsNone};
@@ -958,6 +959,10 @@ impl<K: ChannelKeys + Drop, O: Onion + Drop> Manager<K, O> {
             (is_with_host channel self.old.is_out) event ≡ Ok tt
             → LeadsBy K.signer (call.Decide (O.services self.old.onion) channel verdict) (is_ok result)
             self.old.channels self.new.channels }
+        ensures refuses_for_a_reason { may_decide (slice_get self.old.channels.parts.links channel)
+            (is_with_host channel self.old.is_out) event ≡ Ok tt
+            → IfErr result (λ r. (r ≡ Refusal.Memory) ⊎ ((r ≡ Refusal.NotReady)
+            × (events.next_event (working_end (slice_get self.old.channels.parts.links channel)) ≡ None))) }
     {
         self.may_decide(channel, event)?;
         let decided = self.channels.decide(alloc, &self.onion, channel, verdict);
