@@ -1,5 +1,5 @@
 -- What a tree of entries is as a finite map, for keys that are lists of numbers.
-use Rattle.std.proofs.Common.{◌≡◌, refl, sym, ap, ◌∙◌, ℕ, cond, List, [], ◌∷◌, Option, Some, None}
+use Rattle.std.proofs.Common.{◌≡◌, refl, sym, ap, ◌∙◌, ℕ, cond, List, [], ◌∷◌, Option, Some, None, IsSome}
 use Rattle.std.proofs.Common.{Ordering, Less, Equal, Greater, is_eq, length, arith, inl, inr, true, true≢false}
 use Rattle.std.proofs.lemmas.Bool.{cases_Bool}
 use Rattle.std.specs.Ordering.{nat_cmp, eq_by_cmp}
@@ -114,3 +114,7 @@ same_entries (e ∷ es) h =
 pub same_keys : (es : List (List ℕ × List ℕ)) → IsStrictlySortedBy by_bytes (keys_of es)
     → map.keys (records_of es) ≡ keys_of es
 same_keys es h = ap keys_of (same_entries es h)
+
+pub some : (o : Option (List ℕ)) (v : List ℕ) → o ≡ Some v → IsSome o
+some (Some w) v is = refl
+some None v is = absurd (let e = is in cc)

@@ -117,14 +117,14 @@ module _ (limit : Option ℕ) (id body : List ℕ) where
       let found = replaced db one.0 (subst (λ r. Tries task Replace [] r db (Ok one.0)) (placed (db 0)) one.1) in
       subst (λ (t : Trees). Replaced (db 0) id body (t 0)) (sym trees) found
 
-abbrev params_of : List ℕ → List ℕ → Row
+abbrev pub params_of : List ℕ → List ℕ → Row
 params_of id body = Blob id ∷ Blob body ∷ []
 
 abbrev mode : Mode
 mode = record { keys = Enforced; in_doubt = false; may_wait = false }
 
 -- what the statement makes of a database
-does : (limit : Option ℕ) (schema_was : Schema) (db : Trees) (id body text : List ℕ) (tally : Tally)
+pub does : (limit : Option ℕ) (schema_was : Schema) (db : Trees) (id body text : List ℕ) (tally : Tally)
     (after : Database) → schema_was ≡ schema
     → Does limit mode (params_of id body) (record { schema = schema_was; trees = db }) text None (InsertOr 0 Replace
     (Values terms 3) []) (Ok (tally, after))
@@ -184,20 +184,28 @@ module _ (old new : State) (id body : List ℕ) where
     },
   )
 
-  -- a statement that failed has changed nothing
-  pub fails : (sql : List ℕ) (params : Row) (e : Error) → IsTrue new.is_open → Executes sql params old new (Err e)
-      → Stays old new
+  -- a statement that failed has changed nothing, or has ended the transaction
+  pub failed : (sql : List ℕ) (params : Row) (e : Error) → Executes sql params old new (Err e)
+      → IsUnchanged old new ⊎ IsRolledBack old new
   unfolding ExecutesIn IsNotRun
-  fails sql params e live (inl (inl never)) = unchanged never.1
-  fails sql params e live (inl (inr failed)) = undone live failed.3
-  fails sql params e live (inr h) = elim (cases_Bool (shows_rows false h.0)) [
-    | inl shows ↦ unchanged (rw shows at h.2).1
+  failed sql params e (inl (inl never)) = inl never.1
+  failed sql params e (inl (inr it)) = inr it.3
+  failed sql params e (inr h) = elim (cases_Bool (shows_rows false h.0)) [
+    | inl shows ↦ inl (rw shows at h.2).1
     | inr runs ↦ ran (rw runs at h.2)
   ]
     where
-      ran : RunsCommand old new sql h.0 (timed params h.0.formats h.1.now) (Err e) → Stays old new
-      ran (inl refused) = unchanged refused.1
-      ran (inr failed) = undone live failed.3
+      ran : RunsCommand old new sql h.0 (timed params h.0.formats h.1.now) (Err e)
+          → IsUnchanged old new ⊎ IsRolledBack old new
+      ran (inl refused) = inl refused.1
+      ran (inr it) = inr it.3
+
+  pub fails : (sql : List ℕ) (params : Row) (e : Error) → IsTrue new.is_open → Executes sql params old new (Err e)
+      → Stays old new
+  fails sql params e live h = elim (failed sql params e h) [
+    | inl same ↦ unchanged same
+    | inr back ↦ undone live back
+  ]
 
   -- nor has a query, answered or refused
   shown_stays : (sql : List ℕ) (params : Row) (rows : List Row) → old.now.schema ≡ schema

@@ -1,3 +1,4 @@
+use Rattle.std.proofs.Common.{Result, Err, ◌≤◌, length, arith}
 use Rattle.std.proofs.Common.{◌≡◌, ℕ, ℤ, pos, negsuc, List, [], ◌∷◌, codes, true, false, cond, Bool, None, Ok, refl}
 use Rattle.sqlite.specs.declared.types.Value.{Value}
 use Rattle.sqlite.specs.declared.types.Value.TheVariants.{Null, Int}
@@ -14,6 +15,10 @@ use Rattle.sqlite.specs.Cast.{cast}
 use Rattle.sqlite.specs.Kind.TheVariants.{Integer}
 use Rattle.sqlite.specs.Source.TheVariants.{Values}
 use Rattle.sqlite.specs.Command.TheVariants.{InsertOr, Select, CreateTable}
+use Rattle.sqlite_schema.specs.declared.command.Command.TheVariants.{Begin, Commit, Rollback}
+use Rattle.sqlite_schema.specs.declared.schema.Schema.{Schema}
+use Rattle.sqlite_resolve.specs.declared.compiled.Compiled.{Compiled}
+use Rattle.sqlite_resolve.specs.declared.error.CompileError.{CompileError}
 use Rattle.sqlite.specs.Query.{Query, inner, end}
 use Rattle.sqlite_schema.specs.declared.command.Conflict.TheVariants.{Replace}
 use Rattle.sqlite.proofs.Callers.{IsPlain, command_of, statement_of}
@@ -46,6 +51,34 @@ create_is = (refl, refl, refl)
 pub create_plain : IsPlain (understood none create_text)
 unfolding understood everything
 create_plain = (refl, refl)
+
+abbrev pub begin_text : List ℕ
+begin_text = codes "BEGIN"
+
+abbrev pub commit_text : List ℕ
+commit_text = codes "COMMIT"
+
+abbrev pub roll_back_text : List ℕ
+roll_back_text = codes "ROLLBACK"
+
+-- a text of one statement, without parameters
+abbrev pub IsWhole : List ℕ → Result Compiled CompileError → Type 0
+IsWhole sql (Ok c) = (length sql ≤ c.tail) × (c.names ≡ [])
+IsWhole sql (Err e) = ⊥
+
+-- these mean the same in each database
+pub begin_is : (s : Schema) → (command_of (understood s begin_text) ≡ Begin) × IsPlain (understood s begin_text)
+unfolding understood everything
+begin_is s = (refl, (refl, refl))
+
+pub commit_is : (s : Schema) → (command_of (understood s commit_text) ≡ Commit) × IsPlain (understood s commit_text)
+unfolding understood everything
+commit_is s = (refl, (refl, refl))
+
+pub roll_back_is : (s : Schema) → (command_of (understood s roll_back_text) ≡ Rollback)
+    × IsPlain (understood s roll_back_text) × IsWhole roll_back_text (understood s roll_back_text)
+unfolding understood everything
+roll_back_is s = (refl, (refl, refl), (omega arith, refl))
 
 -- the table beside the index of its key
 pub created_is : created none records ≡ schema

@@ -1,6 +1,8 @@
 pub mod Copies
 pub mod Table
 pub mod Holds
+pub mod Within
+pub mod Together
 pub mod Replaced
 pub mod Reading
 pub mod Begins

@@ -50,7 +50,7 @@ impl Copies {
         Ok(self.records.insert(id, bytes)?)
     }
 
-    fn take_out(&mut self, id: &[u8; 32]) -> Option<Bytes>
+    pub(crate) fn take_out(&mut self, id: &[u8; 32]) -> Option<Bytes>
         ensures { self.new ≡ map.remove self.old id.now }
     {
         self.records.remove(id)
@@ -70,7 +70,7 @@ impl Copies {
         }
     }
 
-    fn find(&self, id: &[u8; 32]) -> Option<&Bytes>
+    pub(crate) fn find(&self, id: &[u8; 32]) -> Option<&Bytes>
         ensures { option_copied result ≡ map.get self.now id.now }
     {
         self.records.get(id)

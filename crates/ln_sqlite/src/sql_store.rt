@@ -12,6 +12,7 @@ ghost use Rattle.ln_sqlite.specs.Begins.{BeginsWith, MayMakeTable, HasRecordsAlo
 use crate::compared::is_copy;
 use crate::copies::Copies;
 use crate::rows::read_copies;
+use crate::shared::SharedDatabase;
 use crate::statements::{has_ids, load_rows, make_table, save_row};
 use crate::table::{is_empty, is_table_of_records};
 use ln_bytes::Bytes;
@@ -29,7 +30,7 @@ pub struct SqliteStore<S: Alter> {
 }
 
 /// One failure more, or as many as can be counted.
-fn counted(failures: &mut u64) -> Refusal
+pub(crate) fn counted(failures: &mut u64) -> Refusal
     ensures is_61 { result ≡ Refusal.Store }
     ensures is_counted { HasRisen failures.old failures.new }
 {
@@ -135,6 +136,14 @@ impl<S: Alter> SqliteStore<S> {
         ensures { result ≡ self.connection }
     {
         self.connection
+    }
+}
+
+impl<S: Alter + Drop> SqliteStore<S> {
+    /// The database, for several stores, each with a part of its records. Error: 60 where there is no memory; the
+    /// database is let go then.
+    pub fn share(self, alloc: Global) -> Result<SharedDatabase<S>, Refusal> {
+        SharedDatabase::new(alloc, self.connection, self.copies)
     }
 }
 

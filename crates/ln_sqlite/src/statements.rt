@@ -7,6 +7,7 @@ ghost use Rattle.sqlite.specs.State.{HasCleanDisk};
 ghost use Rattle.ln_store.specs.Store.{Records};
 ghost use Rattle.ln_sqlite.specs.Table.{schema, none};
 ghost use Rattle.ln_sqlite.specs.Holds.{IsTableOf, StopLeaves};
+ghost use Rattle.ln_sqlite.specs.Within.{IsWithin, HasCommitted, StopLeavesTheOld};
 ghost use Rattle.ln_sqlite.specs.Reading.{AreShown};
 ghost use Rattle.ln_sqlite.specs.Shown.{AreBodies, AreIdsOf};
 ghost use Rattle.ln_sqlite.specs.Begins.{IsSettled, Stays};
@@ -15,7 +16,7 @@ use crate::compared::shows;
 use sqlite::types::ValueRef;
 use sqlite::{Alter, Connection, Error, Row};
 
-/// One upsert by id. Where it answers Ok, the row is committed.
+/// One upsert by id. Where it answers Ok, the row is committed, or is so with the transaction that is under way.
 pub(crate) fn save_row<S: Alter>(
     connection: &mut Connection<S>,
     id: &[u8],
@@ -32,6 +33,17 @@ pub(crate) fn save_row<S: Alter>(
         → IsTableOf (state S.Store connection.old) records
         → StopLeaves (state S.Store connection.old) (state S.Store connection.new)
         (map.insert records id.now bytes.now) }
+    ensures puts_within { HasCleanDisk (state S.Store connection.new) → OnOk result ((before records : Records)
+        → IsWithin (state S.Store connection.old) before records
+        → IsWithin (state S.Store connection.new) before (map.insert records id.now bytes.now)) }
+    ensures leaves_the_last_within { HasCleanDisk (state S.Store connection.new)
+        → IsTrue (state S.Store connection.new).is_open → OnErr result ((before records : Records)
+        → IsWithin (state S.Store connection.old) before records
+        → HasCommitted (state S.Store connection.new) before) }
+    ensures leaves_the_old_at_a_stop_within { HasCleanDisk (state S.Store connection.new)
+        → (before records : Records) → IsWithin (state S.Store connection.old) before records
+        → StopLeavesTheOld (state S.Store connection.old) (state S.Store connection.new) }
+    ensures was_clean { HasCleanDisk (state S.Store connection.new) → HasCleanDisk (state S.Store connection.old) }
 {
     connection.execute(
         "INSERT OR REPLACE INTO records(id, body) VALUES (?1, ?2)",

@@ -18,6 +18,8 @@ mod players;
 #[cfg(test)]
 mod reopened;
 #[cfg(test)]
+mod shared;
+#[cfg(test)]
 mod sizes;
 #[cfg(test)]
 mod stops;

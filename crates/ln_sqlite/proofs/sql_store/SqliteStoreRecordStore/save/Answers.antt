@@ -1,14 +1,10 @@
-use Rattle.std.proofs.Common.{◌≡◌, Option, Some, None, IsSome, List, ℕ, refl, ap, sym, subst, ◌∙◌}
+use Rattle.std.proofs.Common.{ap, sym, subst, ◌∙◌}
 use Rattle.std.specs.FinMap as map
 use Rattle.sqlite.specs.Held.{state}
 use Rattle.ln_sqlite.specs.Copies.{restored}
 use Rattle.ln_sqlite.specs.Holds.{IsTableOf}
 use Rattle.ln_sqlite.proofs.sql_store.SqliteStoreRecordStore.save.Goals as goal
-use Rattle.ln_sqlite.proofs.Maps.{is_there, undo}
-
-some : (o : Option (List ℕ)) (v : List ℕ) → o ≡ Some v → IsSome o
-some (Some w) v is = refl
-some None v is = absurd (let e = is in cc)
+use Rattle.ln_sqlite.proofs.Maps.{is_there, undo, some}
 
 pub restore-requires : goal.restore-requires
 restore-requires g c =

@@ -1,0 +1,211 @@
+//! Stores that share a database, each in a thread of its own: each record that is found is the last that was saved,
+//! or the one that a save was refused with; and an id is one store's.
+
+ghost use Rattle.std.specs.Prelude.{IsTrue};
+ghost use Rattle.sqlite_disk.specs.Memory.{memory_is_usable};
+ghost use Rattle.sqlite_disk.specs.Fuse.{inner_of, IsFresh};
+
+use crate::database::{Disks, Image, NEVER, Stop, connected, connected_anew};
+use crate::samples::Sample;
+use ln_refusals::Refusal;
+use ln_sqlite::{SharedDatabase, SqliteStore};
+use ln_store::RecordStore;
+use sqlite::{Alter, Connection};
+use sqlite_disk::Crash;
+use std::alloc::Global;
+use std::sync::Wait;
+use std::test::Fail;
+use std::thread;
+use std::thread::{JoinHandle, Threads};
+
+/// How many stores there are, and how often each saves.
+const STORES: u8 = 4;
+const SAVES: u8 = 12;
+
+/// A store's record after so many saves.
+fn sample(store: u8, saves: u8) -> Sample {
+    Sample {
+        id: store,
+        len: 3000,
+        byte: saves,
+    }
+}
+
+/// Saves until a save is refused by 61. How many weren't, or 255 where it was refused otherwise.
+fn saved<S: RecordStore>(alloc: Global, store: &mut S, number: u8) -> u8 {
+    for saves in 1..=SAVES {
+        match sample(number, saves).save(alloc, store) {
+            Ok(()) => {}
+            Err(Refusal::Store) => return saves - 1,
+            Err(_) => return 255,
+        }
+    }
+    SAVES
+}
+
+/// What threads answer, in their order; a thread that wasn't made counts as one without a save.
+fn joined<R: Threads>(rt: &R, threads: Vec<JoinHandle<u8>>) -> [u8; 4] {
+    let mut all = [0; 4];
+    for (at, thread) in threads.into_iter().enumerate() {
+        let answer = thread.join(rt);
+        if let Some(place) = all.get_mut(at) {
+            *place = answer;
+        }
+    }
+    all
+}
+
+/// How many saves of each store weren't refused, all of which save at once.
+fn all_save<S, R>(rt: R, alloc: Global, database: &SharedDatabase<S>) -> Result<[u8; 4], Refusal>
+where
+    S: Alter + Drop + Send + 'static,
+    R: Threads + Wait + Copy + Send + Sync + 'static,
+{
+    let mut threads = Vec::with_capacity(alloc, 4)?;
+    for number in 0..STORES {
+        let mut store = database.store(rt, alloc)?;
+        match thread::spawn(&rt, move || saved(alloc, &mut store, number)) {
+            Ok(thread) => threads.push(thread)?,
+            Err(closure) => drop(closure),
+        }
+    }
+    Ok(joined(&rt, threads))
+}
+
+/// Whether a store has the record that its last save left: that of the save that was refused, too.
+fn has_the_last<S: RecordStore>(
+    alloc: Global,
+    store: &mut S,
+    number: u8,
+    saves: u8,
+) -> Result<bool, Refusal> {
+    let Some(found) = store.load(alloc, &[number; 32])? else {
+        return Ok(saves == 0);
+    };
+    drop(found);
+    if saves > 0 && saves <= SAVES && sample(number, saves).is_in(alloc, store)? {
+        return Ok(true);
+    }
+    Ok(saves < SAVES && sample(number, saves + 1).is_in(alloc, store)?)
+}
+
+fn have_the_last<S: RecordStore>(
+    alloc: Global,
+    store: &mut S,
+    saves: &[u8; 4],
+) -> Result<bool, Refusal> {
+    for (number, saves) in (0..STORES).zip(saves.iter()) {
+        if !has_the_last(alloc, store, number, *saves)? {
+            return Ok(false);
+        }
+    }
+    Ok(true)
+}
+
+/// A store over a database, or why there is none.
+fn store_over<S: Alter + Drop>(
+    alloc: Global,
+    connection: Connection<S>,
+) -> Result<SqliteStore<S>, Refusal> {
+    match SqliteStore::over(alloc, connection) {
+        Ok(store) => Ok(store),
+        Err((refusal, connection)) => {
+            drop(connection);
+            Err(refusal)
+        }
+    }
+}
+
+/// How many saves weren't refused over a database, and what is after its connection.
+fn saved_over<S, R>(
+    rt: R,
+    alloc: Global,
+    connection: Connection<S>,
+) -> Result<([u8; 4], Connection<S>), Refusal>
+where
+    S: Alter + Drop + Send + 'static,
+    R: Threads + Wait + Copy + Send + Sync + 'static,
+{
+    let database = store_over(alloc, connection)?.share(alloc)?;
+    let saves = all_save(rt, alloc, &database)?;
+    match database.into_connection() {
+        Some(connection) => Ok((saves, connection)),
+        None => Err(Refusal::Store),
+    }
+}
+
+/// The same over files one of which fails, and what a stop leaves of them.
+fn saved_with<R>(rt: R, alloc: Global, disks: Disks) -> Result<([u8; 4], Image), Refusal>
+where
+    R: Threads + Wait + Copy + Send + Sync + 'static,
+    requires log { IsFresh disks.log × IsTrue (memory_is_usable (inner_of disks.log)) }
+    requires db { IsFresh disks.db × IsTrue (memory_is_usable (inner_of disks.db)) }
+{
+    let Ok(connection) = connected(alloc, disks, 1000) else {
+        return Err(Refusal::Store);
+    };
+    let (saves, connection) = saved_over(rt, alloc, connection)?;
+    let mut disks = connection.into_store().close();
+    disks.log.crash();
+    disks.db.crash();
+    Ok((saves, Image::of(alloc, &disks)?))
+}
+
+/// Whether files with these bytes have what the saves left.
+fn are_kept(alloc: Global, image: &Image, saves: &[u8; 4]) -> Result<bool, Refusal> {
+    let Ok(connection) = connected(alloc, image.disks(alloc, NEVER)?, 1000) else {
+        return Ok(false);
+    };
+    let mut store = store_over(alloc, connection)?;
+    have_the_last(alloc, &mut store, saves)
+}
+
+// Threads that save at once, over a file that fails from some call on.
+#[test]
+fn saves_at_once(rt: HostRuntime) -> Result<(), Refusal> {
+    let alloc = rt.alloc();
+    for calls in [60, 100, 150, 10_000] {
+        let stop = Stop {
+            in_log: true,
+            calls,
+        };
+        let disks = Image::empty(alloc).disks(alloc, stop)?;
+        let (saves, image) = saved_with(rt, alloc, disks)?;
+        assert!(&rt; are_kept(alloc, &image, &saves)?);
+        assert!(&rt; calls < 10_000 || saves == [SAVES; 4]);
+        assert!(&rt; calls > 100 || saves[0] < SAVES);
+    }
+    Ok(())
+}
+
+// Stores that come and go over one database: each has its own records alone.
+#[test]
+fn ids_are_one_stores(rt: HostRuntime) -> Result<(), Refusal> {
+    let alloc = rt.alloc();
+    let mut first = store_over(alloc, connected_anew(alloc)?)?;
+    sample(1, 1).save(alloc, &mut first)?;
+    sample(2, 1).save(alloc, &mut first)?;
+    let database = first.share(alloc)?;
+    let mut one = database.store_of(rt, alloc, &[1; 32])?;
+    let mut other = database.store(rt, alloc)?;
+    assert!(&rt; database.ids(&rt, alloc)?.as_slice() == [[2; 32]].as_slice());
+    assert!(&rt; one.ids(alloc)?.as_slice() == [[1; 32]].as_slice());
+    assert!(&rt; other.ids(alloc)?.is_empty());
+    assert!(&rt; sample(1, 1).is_in(alloc, &mut one)?);
+    assert_eq!(&rt; sample(1, 2).save(alloc, &mut other), Err(Refusal::Store));
+    assert_eq!(&rt; sample(2, 2).save(alloc, &mut other), Err(Refusal::Store));
+    assert_eq!(&rt; other.failures(), 2);
+    assert_eq!(&rt; sample(3, 1).save(alloc, &mut other), Ok(()));
+    assert_eq!(&rt; sample(1, 2).save(alloc, &mut one), Ok(()));
+    assert!(&rt; sample(1, 2).is_in(alloc, &mut one)? && sample(3, 1).is_in(alloc, &mut other)?);
+    assert!(&rt; database.store_of(rt, alloc, &[3; 32]).is_err());
+    drop(one);
+    drop(other);
+    let Some(connection) = database.into_connection() else {
+        return Err(Refusal::Store);
+    };
+    let mut last = store_over(alloc, connection)?;
+    let all = sample(1, 2).is_in(alloc, &mut last)? && sample(2, 1).is_in(alloc, &mut last)?;
+    assert!(&rt; all && sample(3, 1).is_in(alloc, &mut last)?);
+    Ok(())
+}
