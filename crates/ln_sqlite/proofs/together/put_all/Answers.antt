@@ -15,7 +15,8 @@ returns-in-Err-clause-leaves_the_last g c clean live _ before records was =
 pub returns-in-Err-clause-leaves_the_old_at_a_stop : goal.returns-in-Err-clause-leaves_the_old_at_a_stop
 returns-in-Err-clause-leaves_the_old_at_a_stop g c clean before records was trees left =
     let mid = c.loop-job.invariant.reaches (c.save_row.ensures.was_clean clean) before records was in
-    mid.stops trees (c.save_row.ensures.leaves_the_old_at_a_stop_within clean before mid.reached mid.is_within trees left)
+    mid.stops trees
+    (c.save_row.ensures.leaves_the_old_at_a_stop_within clean before mid.reached mid.is_within trees left)
 
 pub loop-job-preserved : goal.loop-job-preserved
 loop-job-preserved g c =
