@@ -1,9 +1,8 @@
 -- The statements of a transaction over the table.
-use Rattle.std.proofs.Common.{◌≡◌, ◌⊎◌, inl, inr, ℕ, List, [], ◌∷◌, true, false, None, Ok, Err, Result, refl}
+use Rattle.std.proofs.Common.{◌≡◌, inl, inr, ℕ, List, [], ◌∷◌, true, false, None, Ok, Err, Result, refl}
 use Rattle.std.proofs.Common.{sym, ap, subst, IsTrue, OnOk, OnErr, ◌∙◌, append-nil}
 use Rattle.std.specs.FinMap as map
 use Rattle.std.proofs.Common.{true≢false, length}
-use Rattle.std.proofs.lemmas.Bool.{cases_Bool}
 use Rattle.sqlite_resolve.specs.declared.compiled.Compiled.{Compiled}
 use Rattle.sqlite_schema.specs.declared.command.Command.{Command}
 use Rattle.sqlite.specs.Calls.{IsWrite}
@@ -17,7 +16,7 @@ use Rattle.sqlite.specs.declared.error.Error.{Error}
 use Rattle.sqlite.specs.Clock.{timed}
 use Rattle.sqlite.specs.Effect.{Database}
 use Rattle.sqlite.specs.Listing.{understood}
-use Rattle.sqlite.specs.State.{State, Executes, ExecutesIn, IsNotRun, IsUnchanged, IsRolledBack, CommitsBy, MayCommit}
+use Rattle.sqlite.specs.State.{State, Executes, ExecutesIn, IsNotRun, IsRolledBack, CommitsBy, MayCommit}
 use Rattle.sqlite.specs.State.{RunsCommand, IsMisplaced, IsNoStatement, text_of, shows_rows}
 use Rattle.sqlite.proofs.Callers.{IsPlain, command_of, statement_of, runs_as}
 use Rattle.ln_store.specs.Store.{Records}

@@ -48,7 +48,9 @@ impl<S: Alter + Drop> Desk<S> {
     }
 
     /// Makes an id this store's, with the record that it has. Error 61: it is another store's.
-    pub(crate) fn claim(&mut self, store: u64, id: &[u8; 32]) -> Result<Option<Bytes>, Refusal> {
+    pub(crate) fn claim(&mut self, store: u64, id: &[u8; 32]) -> Result<Option<Bytes>, Refusal>
+        ensures adds_nothing { self.new.waiting.items ≡ self.old.waiting.items }
+    {
         match self.owners.get(id) {
             Some(owner) if *owner == store => {}
             Some(_) => return Err(Refusal::Store),
