@@ -20,6 +20,7 @@ use std::thread::{JoinHandle, Threads};
 
 /// How many stores there are, and how often each saves.
 const STORES: u8 = 4;
+
 const SAVES: u8 = 12;
 
 /// A store's record after so many saves.
