@@ -109,7 +109,7 @@ pub fn connected_anew(alloc: Global) -> Result<Connection<FileStore<Fuse<Memory>
 }
 
 /// What was opened, or why it wasn't. What is generic pays nothing for the depth of what it drops.
-fn no_files<C, D: Drop>(opened: Result<C, D>) -> Result<C, Refusal> {
+pub fn no_files<C, D: Drop>(opened: Result<C, D>) -> Result<C, Refusal> {
     match opened {
         Ok(connection) => Ok(connection),
         Err(files) => {

@@ -5,10 +5,10 @@ ghost use Rattle.std.specs.Prelude.{IsTrue};
 ghost use Rattle.sqlite_disk.specs.Memory.{memory_is_usable};
 ghost use Rattle.sqlite_disk.specs.Fuse.{inner_of, IsFresh};
 
-use crate::database::{Disks, Image, NEVER, Stop, connected, connected_anew};
+use crate::database::{Disks, Image, NEVER, Stop, connected, connected_anew, no_files};
 use crate::samples::Sample;
 use ln_refusals::Refusal;
-use ln_sqlite::{SharedDatabase, SqliteStore};
+use ln_sqlite::{SharedDatabase, SharedStore, SqliteStore};
 use ln_store::RecordStore;
 use sqlite::{Alter, Connection};
 use sqlite_disk::Crash;
@@ -142,23 +142,26 @@ where
     requires log { IsFresh disks.log × IsTrue (memory_is_usable (inner_of disks.log)) }
     requires db { IsFresh disks.db × IsTrue (memory_is_usable (inner_of disks.db)) }
 {
-    let Ok(connection) = connected(alloc, disks, 1000) else {
-        return Err(Refusal::Store);
-    };
-    let (saves, connection) = saved_over(rt, alloc, connection)?;
+    let (saves, connection) = saved_over(rt, alloc, no_files(connected(alloc, disks, 1000))?)?;
     let mut disks = connection.into_store().close();
     disks.log.crash();
     disks.db.crash();
     Ok((saves, Image::of(alloc, &disks)?))
 }
 
-/// Whether files with these bytes have what the saves left.
+/// Whether a database has what the saves left.
+fn has_all<S: Alter + Drop>(
+    alloc: Global,
+    connection: Connection<S>,
+    saves: &[u8; 4],
+) -> Result<bool, Refusal> {
+    have_the_last(alloc, &mut store_over(alloc, connection)?, saves)
+}
+
+/// Whether files with these bytes have it.
 fn are_kept(alloc: Global, image: &Image, saves: &[u8; 4]) -> Result<bool, Refusal> {
-    let Ok(connection) = connected(alloc, image.disks(alloc, NEVER)?, 1000) else {
-        return Ok(false);
-    };
-    let mut store = store_over(alloc, connection)?;
-    have_the_last(alloc, &mut store, saves)
+    let disks = image.disks(alloc, NEVER)?;
+    has_all(alloc, no_files(connected(alloc, disks, 1000))?, saves)
 }
 
 // Threads that save at once, over a file that fails from some call on.
@@ -179,34 +182,89 @@ fn saves_at_once(rt: HostRuntime) -> Result<(), Refusal> {
     Ok(())
 }
 
+/// A database that has the records 1 and 2.
+fn two_records<S: Alter + Drop>(
+    alloc: Global,
+    connection: Connection<S>,
+) -> Result<SharedDatabase<S>, Refusal> {
+    let mut store = store_over(alloc, connection)?;
+    sample(1, 1).save(alloc, &mut store)?;
+    sample(2, 1).save(alloc, &mut store)?;
+    store.share(alloc)
+}
+
+/// Whether a store has the one record of which it is, another one none, and the database the rest.
+fn are_listed<S: Alter + Drop, R: Wait + Drop>(
+    rt: &R,
+    alloc: Global,
+    database: &SharedDatabase<S>,
+    one: &mut SharedStore<S, R>,
+    other: &mut SharedStore<S, R>,
+) -> Result<bool, Refusal> {
+    let left = database.ids(rt, alloc)?.as_slice() == [[2; 32]].as_slice();
+    let own = one.ids(alloc)?.as_slice() == [[1; 32]].as_slice();
+    let none = other.ids(alloc)?.is_empty();
+    Ok(left && own && none && sample(1, 1).is_in(alloc, one)?)
+}
+
+/// Whether a store is refused an id that is another's, and one that has a record and no store.
+fn is_refused_others<S: RecordStore>(alloc: Global, other: &mut S) -> bool {
+    let of_one = sample(1, 2).save(alloc, other);
+    let of_none = sample(2, 2).save(alloc, other);
+    of_one == Err(Refusal::Store) && of_none == Err(Refusal::Store) && other.failures() == 2
+}
+
+/// Whether each store has what it saves.
+fn have_their_own<S: RecordStore>(
+    alloc: Global,
+    one: &mut S,
+    other: &mut S,
+) -> Result<bool, Refusal> {
+    sample(3, 1).save(alloc, other)?;
+    sample(1, 2).save(alloc, one)?;
+    Ok(sample(1, 2).is_in(alloc, one)? && sample(3, 1).is_in(alloc, other)?)
+}
+
+/// Whether two stores of a database have each its own records alone.
+fn are_apart<S: Alter + Drop, R: Wait + Copy + Drop>(
+    rt: R,
+    alloc: Global,
+    database: &SharedDatabase<S>,
+) -> Result<bool, Refusal> {
+    let mut one = database.store_of(rt, alloc, &[1; 32])?;
+    let mut other = database.store(rt, alloc)?;
+    let listed = are_listed(&rt, alloc, database, &mut one, &mut other)?;
+    let refused = is_refused_others(alloc, &mut other);
+    let saved = have_their_own(alloc, &mut one, &mut other)?;
+    Ok(listed && refused && saved && database.store_of(rt, alloc, &[3; 32]).is_err())
+}
+
+/// Whether a database has what these stores saved, once they are gone.
+fn are_left<S: Alter + Drop>(alloc: Global, database: SharedDatabase<S>) -> Result<bool, Refusal> {
+    let Some(connection) = database.into_connection() else {
+        return Ok(false);
+    };
+    let mut store = store_over(alloc, connection)?;
+    let first = sample(1, 2).is_in(alloc, &mut store)?;
+    let second = sample(2, 1).is_in(alloc, &mut store)?;
+    Ok(first && second && sample(3, 1).is_in(alloc, &mut store)?)
+}
+
+/// Whether stores that come and go over a database have each its own records alone.
+fn stay_apart<S: Alter + Drop, R: Wait + Copy + Drop>(
+    rt: R,
+    alloc: Global,
+    connection: Connection<S>,
+) -> Result<bool, Refusal> {
+    let database = two_records(alloc, connection)?;
+    let apart = are_apart(rt, alloc, &database)?;
+    Ok(apart && are_left(alloc, database)?)
+}
+
 // Stores that come and go over one database: each has its own records alone.
 #[test]
 fn ids_are_one_stores(rt: HostRuntime) -> Result<(), Refusal> {
     let alloc = rt.alloc();
-    let mut first = store_over(alloc, connected_anew(alloc)?)?;
-    sample(1, 1).save(alloc, &mut first)?;
-    sample(2, 1).save(alloc, &mut first)?;
-    let database = first.share(alloc)?;
-    let mut one = database.store_of(rt, alloc, &[1; 32])?;
-    let mut other = database.store(rt, alloc)?;
-    assert!(&rt; database.ids(&rt, alloc)?.as_slice() == [[2; 32]].as_slice());
-    assert!(&rt; one.ids(alloc)?.as_slice() == [[1; 32]].as_slice());
-    assert!(&rt; other.ids(alloc)?.is_empty());
-    assert!(&rt; sample(1, 1).is_in(alloc, &mut one)?);
-    assert_eq!(&rt; sample(1, 2).save(alloc, &mut other), Err(Refusal::Store));
-    assert_eq!(&rt; sample(2, 2).save(alloc, &mut other), Err(Refusal::Store));
-    assert_eq!(&rt; other.failures(), 2);
-    assert_eq!(&rt; sample(3, 1).save(alloc, &mut other), Ok(()));
-    assert_eq!(&rt; sample(1, 2).save(alloc, &mut one), Ok(()));
-    assert!(&rt; sample(1, 2).is_in(alloc, &mut one)? && sample(3, 1).is_in(alloc, &mut other)?);
-    assert!(&rt; database.store_of(rt, alloc, &[3; 32]).is_err());
-    drop(one);
-    drop(other);
-    let Some(connection) = database.into_connection() else {
-        return Err(Refusal::Store);
-    };
-    let mut last = store_over(alloc, connection)?;
-    let all = sample(1, 2).is_in(alloc, &mut last)? && sample(2, 1).is_in(alloc, &mut last)?;
-    assert!(&rt; all && sample(3, 1).is_in(alloc, &mut last)?);
+    assert!(&rt; stay_apart(rt, alloc, connected_anew(alloc)?)?);
     Ok(())
 }
