@@ -1,7 +1,7 @@
 //! Stores that share a database, each in a thread of its own: each record that is found is the last that was saved,
 //! or the one that a save was refused with; and an id is one store's.
 
-ghost use Rattle.std.specs.Prelude.{IsTrue};
+ghost use Rattle.std.specs.Prelude.{IsTrue, IfOk};
 ghost use Rattle.sqlite_disk.specs.Memory.{memory_is_usable};
 ghost use Rattle.sqlite_disk.specs.Fuse.{inner_of, IsFresh};
 
@@ -10,8 +10,8 @@ use crate::samples::Sample;
 use ln_refusals::Refusal;
 use ln_sqlite::{SharedDatabase, SharedStore, SqliteStore};
 use ln_store::RecordStore;
-use sqlite::{Alter, Connection};
-use sqlite_disk::Crash;
+use sqlite::{Alter, Connection, Files};
+use sqlite_disk::{Crash, Disk};
 use std::alloc::Global;
 use std::sync::Wait;
 use std::test::Fail;
@@ -117,36 +117,40 @@ fn store_over<S: Alter + Drop>(
     }
 }
 
-/// How many saves weren't refused over a database, and what is after its connection.
+/// What is after the connection of a database over which all save at once, and how many saves of each weren't refused.
 fn saved_over<S, R>(
     rt: R,
     alloc: Global,
     connection: Connection<S>,
-) -> Result<([u8; 4], Connection<S>), Refusal>
+    saves: &mut [u8; 4],
+) -> Result<S, Refusal>
 where
     S: Alter + Drop + Send + 'static,
     R: Threads + Wait + Copy + Send + Sync + 'static,
 {
     let database = store_over(alloc, connection)?.share(alloc)?;
-    let saves = all_save(rt, alloc, &database)?;
+    *saves = all_save(rt, alloc, &database)?;
     match database.into_connection() {
-        Some(connection) => Ok((saves, connection)),
+        Some(connection) => Ok(connection.into_store()),
         None => Err(Refusal::Store),
     }
 }
 
-/// The same over files one of which fails, and what a stop leaves of them.
-fn saved_with<R>(rt: R, alloc: Global, disks: Disks) -> Result<([u8; 4], Image), Refusal>
+/// The same over files.
+fn saved_with<D, R>(
+    rt: R,
+    alloc: Global,
+    disks: Files<D>,
+    saves: &mut [u8; 4],
+) -> Result<Files<D>, Refusal>
 where
+    D: Disk + Drop + Send + 'static,
     R: Threads + Wait + Copy + Send + Sync + 'static,
-    requires log { IsFresh disks.log × IsTrue (memory_is_usable (inner_of disks.log)) }
-    requires db { IsFresh disks.db × IsTrue (memory_is_usable (inner_of disks.db)) }
+    requires log { IsTrue (D.Disk.is_usable disks.log) }
+    requires db { IsTrue (D.Disk.is_usable disks.db) }
 {
-    let (saves, connection) = saved_over(rt, alloc, no_files(connected(alloc, disks, 1000))?)?;
-    let mut disks = connection.into_store().close();
-    disks.log.crash();
-    disks.db.crash();
-    Ok((saves, Image::of(alloc, &disks)?))
+    let connection = no_files(connected(alloc, disks, 1000))?;
+    Ok(saved_over(rt, alloc, connection, saves)?.close())
 }
 
 /// Whether a database has what the saves left.
@@ -164,18 +168,34 @@ fn are_kept(alloc: Global, image: &Image, saves: &[u8; 4]) -> Result<bool, Refus
     has_all(alloc, no_files(connected(alloc, disks, 1000))?, saves)
 }
 
+/// Whether a stop leaves of files what the saves left.
+fn are_kept_by(alloc: Global, mut disks: Disks, saves: &[u8; 4]) -> Result<bool, Refusal> {
+    disks.log.crash();
+    disks.db.crash();
+    let image = Image::of(alloc, &disks)?;
+    are_kept(alloc, &image, saves)
+}
+
+/// New files, the log of which fails from some call on.
+fn failing_from(alloc: Global, calls: u64) -> Result<Disks, Refusal>
+    ensures log { IfOk result (λ disks. IsFresh disks.log × IsTrue (memory_is_usable (inner_of disks.log))) }
+    ensures db { IfOk result (λ disks. IsFresh disks.db × IsTrue (memory_is_usable (inner_of disks.db))) }
+{
+    let stop = Stop {
+        in_log: true,
+        calls,
+    };
+    Image::empty(alloc).disks(alloc, stop)
+}
+
 // Threads that save at once, over a file that fails from some call on.
 #[test]
 fn saves_at_once(rt: HostRuntime) -> Result<(), Refusal> {
     let alloc = rt.alloc();
     for calls in [60, 100, 150, 10_000] {
-        let stop = Stop {
-            in_log: true,
-            calls,
-        };
-        let disks = Image::empty(alloc).disks(alloc, stop)?;
-        let (saves, image) = saved_with(rt, alloc, disks)?;
-        assert!(&rt; are_kept(alloc, &image, &saves)?);
+        let mut saves = [0; 4];
+        let disks = saved_with(rt, alloc, failing_from(alloc, calls)?, &mut saves)?;
+        assert!(&rt; are_kept_by(alloc, disks, &saves)?);
         assert!(&rt; calls < 10_000 || saves == [SAVES; 4]);
         assert!(&rt; calls > 100 || saves[0] < SAVES);
     }
