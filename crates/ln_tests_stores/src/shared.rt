@@ -188,16 +188,17 @@ fn failing_from(alloc: Global, calls: u64) -> Result<Disks, Refusal>
     Image::empty(alloc).disks(alloc, stop)
 }
 
-// Threads that save at once, over a file that fails from some call on.
+// Threads that save at once, over a file that fails from some call on. Each save but those of one write has four calls of
+// its own, so by 40 of them not all are done.
 #[test]
 fn saves_at_once(rt: HostRuntime) -> Result<(), Refusal> {
     let alloc = rt.alloc();
-    for calls in [60, 100, 150, 10_000] {
+    for calls in [32, 40, 100, 10_000] {
         let mut saves = [0; 4];
         let disks = saved_with(rt, alloc, failing_from(alloc, calls)?, &mut saves)?;
         assert!(&rt; are_kept_by(alloc, disks, &saves)?);
         assert!(&rt; calls < 10_000 || saves == [SAVES; 4]);
-        assert!(&rt; calls > 100 || saves[0] < SAVES);
+        assert!(&rt; calls > 40 || saves != [SAVES; 4]);
     }
     Ok(())
 }
