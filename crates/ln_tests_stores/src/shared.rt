@@ -188,8 +188,8 @@ fn failing_from(alloc: Global, calls: u64) -> Result<Disks, Refusal>
     Image::empty(alloc).disks(alloc, stop)
 }
 
-// Threads that save at once, over a file that fails from some call on. Each save but those of one write has four calls of
-// its own, so by 40 of them not all are done.
+// Threads that save at once, over a file that fails from some call on. Twelve commits are the fewest, of four calls of
+// the log each, so by 40 calls not all is saved.
 #[test]
 fn saves_at_once(rt: HostRuntime) -> Result<(), Refusal> {
     let alloc = rt.alloc();
