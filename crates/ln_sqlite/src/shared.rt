@@ -137,17 +137,17 @@ impl<S: Alter + Drop> SharedDatabase<S> {
         Ok(SharedDatabase { shared })
     }
 
-    /// The connection, where no store of it is left; else it is let go with the last of them.
+    /// The connection, where no store of it is left; else it is let go with the last of them. Takes no memory.
     pub fn into_connection(self) -> Option<Connection<S>> {
         Arc::into_inner(self.shared)?.into_connection()
     }
 
-    /// The ids that have a record and no store yet.
+    /// The ids that have a record and no store yet, in rising order. Error: 60 alone.
     pub fn ids<R: Wait>(&self, rt: &R, alloc: Global) -> Result<Vec<[u8; 32]>, Refusal> {
         self.shared.desk.lock(rt).unclaimed(alloc)
     }
 
-    /// A store without records.
+    /// A store without records. Takes memory for what it waits by. Error: 60 alone.
     pub fn store<R: Wait + Drop>(&self, rt: R, alloc: Global) -> Result<SharedStore<S, R>, Refusal>
         ensures { IfOk result (λ store. (store.copies ≡ map.empty) × (store.failures ≡ 0)) }
     {
@@ -163,7 +163,8 @@ impl<S: Alter + Drop> SharedDatabase<S> {
         })
     }
 
-    /// A store with the record of this id alone, or with none where there is none.
+    /// A store with the record of this id alone, or with none where there is none; the id is this store's from then on.
+    /// Errors: 60; 61 where it is another store's.
     pub fn store_of<R: Wait + Drop>(
         &self,
         rt: R,
@@ -207,7 +208,8 @@ impl<S: Alter + Drop, R: Wait + Drop> RecordStore for SharedStore<S, R> {
     /// Waits until the records that others save now are written, this one with them or after them.
     ///
     /// Errors: 60 where there is no memory, before the database is asked; 61 where it failed, for each record of the
-    /// same write, or where the id is another store's. No record has changed then.
+    /// same write, or where the id is another store's. No record has changed then, unless the database is shut: it has
+    /// all the old ones or all the new ones.
     fn save(&mut self, alloc: Global, id: &[u8; 32], bytes: &[u8]) -> Result<(), Refusal>
         ensures replaces_the_record { OnOk result (self.new.copies ≡ map.insert self.old.copies id.now bytes.now) }
         ensures leaves_the_old { OnErr result (self.new.copies ≡ self.old.copies) }
@@ -224,6 +226,8 @@ impl<S: Alter + Drop, R: Wait + Drop> RecordStore for SharedStore<S, R> {
         }
     }
 
+    /// The record of an id, as this store saved it last or began with it.
+    ///
     /// Errors: 60 where there is no memory, before the database is asked; 61 where it failed, or doesn't have what it
     /// should.
     fn load(&mut self, alloc: Global, id: &[u8; 32]) -> Result<Option<Bytes>, Refusal>
